@@ -1,0 +1,4 @@
+pub mod Figures
+pub mod Pieces
+pub mod Sixteens
+pub mod Parted

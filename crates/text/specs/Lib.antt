@@ -1,0 +1,4 @@
+pub mod Decimals
+pub mod Hexadecimals
+pub mod Words
+pub mod Splits
