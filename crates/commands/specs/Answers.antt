@@ -17,8 +17,10 @@ use Rattle.events.specs.Refused.{stamp-text-refusal-text}
 use Rattle.events.specs.Text.{stamp-read}
 use Rattle.kinds.specs.Bookings.{bookings, booking-text}
 use Rattle.kinds.specs.Notices.{notices, notice-text}
+use Rattle.sheet_commands.specs.Answers as sheets
+use Rattle.sheet_commands.specs.Answers.{sheet-answer}
 use Rattle.commands.specs.declared.answers.Name.{Name}
-use Rattle.commands.specs.declared.answers.Name.the-variants.{Entry, Booking, Notice, Stamp, Help, Nothing, Unknown}
+use Rattle.commands.specs.declared.answers.Name.the-variants.{Entry, Booking, Notice, Stamp, Sheet, SheetFile, Help, Nothing, Unknown}
 use Rattle.commands.specs.declared.answers.Usage.the-variants as usages
 use Rattle.commands.specs.Usages.{usage-text}
 use Rattle.commands.specs.Names.{name-of}
@@ -77,6 +79,8 @@ answer-by Entry cs = entry-answer cs
 answer-by Booking cs = booking-answer cs
 answer-by Notice cs = notice-answer cs
 answer-by Stamp cs = stamp-answer cs
+answer-by Sheet cs = sheet-answer cs
+answer-by SheetFile cs = sheets.usage-text
 answer-by Help cs = usage-text usages.All
 answer-by Nothing cs = []
 answer-by Unknown cs = usage-text usages.None

@@ -11,7 +11,7 @@ use Rattle.std.specs.declared.option.Option.the-variants.{Some, None}
 use Rattle.kinds.specs.declared.booking.Work.{Work}
 use Rattle.kinds.specs.declared.booking.Work.the-variants.{Retrofit, Trial, Freeze}
 use Rattle.commands.specs.declared.answers.Name.{Name}
-use Rattle.commands.specs.declared.answers.Name.the-variants.{Entry, Booking, Notice, Stamp, Help, Nothing, Unknown}
+use Rattle.commands.specs.declared.answers.Name.the-variants.{Entry, Booking, Notice, Stamp, Sheet, SheetFile, Help, Nothing, Unknown}
 
 -- no word, or one that begins a comment
 abbrev pub silent : List ℕ → Bool
@@ -23,7 +23,9 @@ name-of w =
     cond (sameBytes w (codes "entry")) Entry
     (cond (sameBytes w (codes "booking")) Booking
     (cond (sameBytes w (codes "notice")) Notice
-    (cond (sameBytes w (codes "stamp")) Stamp (cond (sameBytes w (codes "help")) Help (cond (silent w) Nothing Unknown)))))
+    (cond (sameBytes w (codes "stamp")) Stamp
+    (cond (sameBytes w (codes "sheet")) Sheet
+    (cond (sameBytes w (codes "sheet-file")) SheetFile (cond (sameBytes w (codes "help")) Help (cond (silent w) Nothing Unknown)))))))
 
 abbrev pub work-named : List ℕ → Option Work
 work-named w =

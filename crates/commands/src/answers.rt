@@ -26,6 +26,8 @@ use kinds::Notice;
 use kinds::NoticeDisplay;
 use kinds::NoticeKind;
 use kinds::Work;
+use sheet_commands::answer_sheet;
+use sheet_commands::say_usage;
 use std::alloc::AllocError;
 use std::alloc::Global;
 use std::fmt::Display;
@@ -42,6 +44,8 @@ enum Name {
     Booking,
     Notice,
     Stamp,
+    Sheet,
+    SheetFile,
     Help,
     // a line without words, or a comment
     Nothing,
@@ -60,6 +64,10 @@ fn name_of(word: &[u8]) -> Name
         Name::Notice
     } else if same_text(word, b"stamp") {
         Name::Stamp
+    } else if same_text(word, b"sheet") {
+        Name::Sheet
+    } else if same_text(word, b"sheet-file") {
+        Name::SheetFile
     } else if same_text(word, b"help") {
         Name::Help
     } else if is_silent(word) {
@@ -113,7 +121,7 @@ impl Usage {
             Usage::Notice => "usage: notice out LINE DAY, or notice word WORD",
             Usage::Stamp => "usage: stamp SITE.NUMBER",
             Usage::All =>
-                "commands: entry booking HEX; entry notice HEX; booking LINE FIRST LAST WORK CREW; notice out LINE DAY; notice word WORD; stamp SITE.NUMBER; help",
+                "commands: entry booking HEX; entry notice HEX; booking LINE FIRST LAST WORK CREW; notice out LINE DAY; notice word WORD; stamp SITE.NUMBER; sheet N SITE KIND HEX; sheet-file N SITE KIND PATH; help",
             Usage::None => "no such command: help lists them",
         }
     }
@@ -321,6 +329,9 @@ pub fn answer(heap: Global, line: &[u8]) -> Result<String, AllocError>
         Name::Booking => answer_booking(heap, rest),
         Name::Notice => answer_notice(heap, rest),
         Name::Stamp => answer_stamp(heap, rest),
+        Name::Sheet => answer_sheet(heap, rest),
+        // one with a path is answered by what the file holds
+        Name::SheetFile => say_usage(heap),
         Name::Help => Usage::All.say(heap),
         Name::Nothing => Ok(String::new(heap)),
         Name::Unknown => Usage::None.say(heap),

@@ -1,0 +1,5 @@
+pub mod Refused
+pub mod Words
+pub mod Capped
+pub mod Told
+pub mod Judged

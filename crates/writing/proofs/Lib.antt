@@ -1,0 +1,4 @@
+pub mod Laws
+pub mod Strips
+pub mod Bodied
+pub mod Fitted
