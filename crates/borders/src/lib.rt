@@ -1,4 +1,6 @@
 // Examples at the borders of the rules.
+#![tactic(auto)]
+
 #[cfg(test)]
 mod entries {
     use dates::{date_of, day_of};

@@ -1,4 +1,6 @@
 // Calendars: entries of any kind in stamp order, in rows that the caller lends.
+#![tactic(auto)]
+
 mod entry;
 mod refusal;
 mod row;

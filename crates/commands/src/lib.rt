@@ -1,4 +1,6 @@
 // The commands of linecal: for each line of input, the text that is printed.
+#![tactic(auto)]
+
 mod answers;
 mod problem;
 

@@ -1,4 +1,6 @@
 // Days by number and by date.
+#![tactic(auto)]
+
 mod date;
 mod days;
 mod read;

@@ -1,4 +1,6 @@
 // Events: their stamps and their records.
+#![tactic(auto)]
+
 mod record;
 mod refusal;
 mod stamp;

@@ -1,4 +1,6 @@
 // The kinds of entry: their values, and the bytes that stand for them.
+#![tactic(auto)]
+
 mod booking;
 mod kind;
 mod notice;

@@ -1,4 +1,6 @@
 // linecal: reads commands from standard input, one a line, and prints what each one answers.
+#![tactic(auto)]
+
 use commands::answer;
 use sheet_commands::{answer_file, file_named};
 use std::io::{BufRead, BufReader};

@@ -1,4 +1,6 @@
 // Memory that the caller lends: stamped elements in order, one search for a stamp's place, shifting, and values in plain bytes.
+#![tactic(auto)]
+
 mod search;
 mod shift;
 mod stamped;

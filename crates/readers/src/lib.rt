@@ -1,4 +1,6 @@
 // Reading the parts of a sheet from lent bytes, and why a sheet is turned away.
+#![tactic(auto)]
+
 mod reader;
 mod refusal;
 

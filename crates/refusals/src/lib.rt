@@ -1,4 +1,6 @@
 // What every refusal tells: its number, one carried number, and the layer that found it.
+#![tactic(auto)]
+
 mod layer;
 mod refusal;
 

@@ -1,4 +1,6 @@
 // Sheets at the borders of the rules.
+#![tactic(auto)]
+
 #[cfg(test)]
 mod sheet_tests {
     use kinds::{Booking, Kind, Notice};

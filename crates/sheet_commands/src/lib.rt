@@ -1,4 +1,6 @@
 // The commands of linecal that look at a sheet.
+#![tactic(auto)]
+
 mod answers;
 mod lines;
 mod problem;

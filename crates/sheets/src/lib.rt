@@ -1,4 +1,6 @@
 // Checking a whole sheet, and walking over the records of one.
+#![tactic(auto)]
+
 mod checked;
 mod checking;
 mod records;

@@ -1,4 +1,6 @@
 // A site's place in its group, and its time table.
+#![tactic(auto)]
+
 mod refusal;
 mod seat;
 mod table;

@@ -1,4 +1,6 @@
 // Text: numbers in decimal digits, bytes in hexadecimal digits, the words of a line.
+#![tactic(auto)]
+
 mod decimals;
 mod hexadecimals;
 mod splits;

@@ -1,4 +1,6 @@
 // Worked runs of three sites with bookings.
+#![tactic(auto)]
+
 ghost use Rattle.worked.specs.Worked.{WorkedRuns};
 
 // The worked runs: what each call answers and leaves, with every byte.

@@ -1,4 +1,6 @@
 // Writing a sheet into a lent buffer.
+#![tactic(auto)]
+
 mod refusal;
 mod sheet;
 

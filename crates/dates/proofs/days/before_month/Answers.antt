@@ -9,4 +9,4 @@ loop-m-preserved c =
     let next : m + 1 - 1 ≡ m = omega arith in
     let e = months_more c.args.year m (omega (arith, c.loop-m.auto)) in
     let s = ap (months_before c.args.year) next in
-    (omega (arith, c.loop-m.invariant.0, c.month-length.ensures.value, c.from-days.ensures), omega (arith, c.loop-m.invariant.1, c.month-length.ensures.bound, c.from-days.ensures))
+    (omega (arith, c.loop-m.invariant.0, c.month_length.ensures.value, c.from-days.ensures), omega (arith, c.loop-m.invariant.1, c.month_length.ensures.bound, c.from-days.ensures))

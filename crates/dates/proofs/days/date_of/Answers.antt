@@ -5,17 +5,17 @@ use Rattle.dates.proofs.days.date_of.Goals as goal
 
 pub returns : goal.returns
 returns c =
-    let t = c.in-month.result in
-    let y = c.in-month.ensures.year in
-    let m = c.in-year-year.result.0 in
+    let t = c.in_month.result in
+    let y = c.in_month.ensures.year in
+    let m = c.in_year-year.result.0 in
     date_is t c.args.day (
       record {
-        year = subst (λ z. 2000 ≤ z) (sym y) c.in-year-year.ensures.from;
-        month = c.in-month.ensures.month;
-        day = (c.in-month.ensures.day.0, subst (λ z. t.day ≤ days_of_month z t.month) (sym y) c.in-month.ensures.day.1);
+        year = subst (λ z. 2000 ≤ z) (sym y) c.in_year-year.ensures.from;
+        month = c.in_month.ensures.month;
+        day = (c.in_month.ensures.day.0, subst (λ z. t.day ≤ days_of_month z t.month) (sym y) c.in_month.ensures.day.1);
       },
       (λ i. years_before (y i - 2000) + (months_before (y i) (t.month - 1) + (t.day - 1)))
-          ∙ ap (λ n. years_before (m - 2000) + n) c.in-month.ensures.sum
-          ∙ c.in-year-year.ensures.sum
+          ∙ ap (λ n. years_before (m - 2000) + n) c.in_month.ensures.sum
+          ∙ c.in_year-year.ensures.sum
           ∙ c.from.ensures,
     )

@@ -3,13 +3,13 @@ use Rattle.dates.specs.Days.{known, date_of_day, number}
 use Rattle.dates.proofs.Numbered.{known_is, is_known, known_small, small_known, date_is}
 use Rattle.dates.proofs.days.day_of.Goals as goal
 
-pub returns-then-not-is-known : goal.returns-then-not-is-known
-returns-then-not-is-known c =
+pub returns-then-not-is_known : goal.returns-then-not-is_known
+returns-then-not-is_known c =
     record {
-      value = ap (λ b. cond b (Some (number c.args.date)) None) c.if-not-is-known.ensures;
+      value = ap (λ b. cond b (Some (number c.args.date)) None) c.if-not-is_known.ensures;
       meaning = λ n h e.
           let k : known c.args.date ≡ true = ap known (sym e) ∙ is_known (date_of_day n) (small_known n h) in
-          let f : false ≡ true = c.if-not-is-known.ensures ∙ k in
+          let f : false ≡ true = c.if-not-is_known.ensures ∙ k in
           let z : ◌≡◌ {A = ℕ} 0 1 = cc in
           omega arith;
     }
@@ -17,12 +17,12 @@ returns-then-not-is-known c =
 pub returns : goal.returns
 returns c =
     let t = c.args.date in
-    let k = known_is t (sym c.if-not-is-known.ensures) in
+    let k = known_is t (sym c.if-not-is_known.ensures) in
     let small = known_small t k in
     let day = k.good.day in
-    let e : number t ≡ c.before-year.result + c.before-month.result + c.from.result - 1 =
-    omega (arith, c.before-year.ensures.value, c.before-month.ensures.value, c.from.ensures) in
+    let e : number t ≡ c.before_year.result + c.before_month.result + c.from.result - 1 =
+    omega (arith, c.before_year.ensures.value, c.before_month.ensures.value, c.from.ensures) in
     record {
-      value = ap (λ n. Some n) (sym e) ∙ ap (λ b. cond b (Some (number t)) None) c.if-not-is-known.ensures;
+      value = ap (λ n. Some n) (sym e) ∙ ap (λ b. cond b (Some (number t)) None) c.if-not-is_known.ensures;
       meaning = (omega arith, sym (date_is t _ (k.good, e)));
     }

@@ -9,7 +9,7 @@ loop-month-preserved c =
     let next : m + 1 - 1 ≡ m = omega arith in
     let e = months_more c.args.year m c.loop-month.invariant.1 in
     let s = ap (months_before c.args.year) next in (
-      omega (arith, c.loop-month.invariant.0, c.month-length-length.ensures.value, c.from.ensures, c.from-past.ensures, c.if-past-from.false),
+      omega (arith, c.loop-month.invariant.0, c.month_length-length.ensures.value, c.from.ensures, c.from-past.ensures, c.if-past-from.false),
       omega arith,
     )
 

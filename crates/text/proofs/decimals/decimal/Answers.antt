@@ -15,7 +15,7 @@ returns-then-c-lt48 c =
       | then-c-lt48-via-else-c-lt48+then-c-gt57 w ↦ omega (arith, w.if-c-gt57.true)
     ] in
     sym
-    (ap capped (whole s (eqb-false (length s) 0 (sym c.if-is-empty.ensures)))
+    (ap capped (whole s (eqb-false (length s) 0 (sym c.if-is_empty.ensures)))
     ∙ sym c.loop-c.invariant.1
     ∙ ap capped (digit_none c.loop-c.n s c.loop-c.c-index c.loop-c-test.true bad)
     )
@@ -25,9 +25,9 @@ loop-c-preserved c =
     let s = c.args.text.now in
     let i = c.loop-c.c-index in
     let n = c.loop-c.n in (
-      omega (arith, c.saturating-add-n.ensures),
-      capped_on (drop (i + 1) s) c.saturating-add-n.result (n * 10 + (get_or s i 0 - 48))
-          (omega (arith, c.saturating-add-n.ensures, c.saturating-mul.ensures, c.from.ensures))
+      omega (arith, c.saturating_add-n.ensures),
+      capped_on (drop (i + 1) s) c.saturating_add-n.result (n * 10 + (get_or s i 0 - 48))
+          (omega (arith, c.saturating_add-n.ensures, c.saturating_mul.ensures, c.from.ensures))
           ∙ ap capped (sym (digit-more n s i c.loop-c-test.true c.if-c-lt48.false c.if-c-gt57.false))
           ∙ c.loop-c.invariant.1,
     )
@@ -39,4 +39,4 @@ returns c =
     ap (λ n. Some n) (sym small)
     ∙ sym (at_drop_all (λ xs. capped (read_on c.loop-c.n xs)) s c.loop-c.c-index c.loop-c-test.false)
     ∙ c.loop-c.invariant.1
-    ∙ ap capped (sym (whole s (eqb-false (length s) 0 (sym c.if-is-empty.ensures))))
+    ∙ ap capped (sym (whole s (eqb-false (length s) 0 (sym c.if-is_empty.ensures))))

@@ -5,12 +5,12 @@ use Rattle.text.specs.Hexadecimals.{led, hex_bytes_of}
 use Rattle.text.proofs.Sixteens.{pair-more, pair_none, read_more}
 use Rattle.text.proofs.hexadecimals.hex_bytes.Goals as goal
 
-pub returns-in-default : goal.returns-in-default
-returns-in-default c =
+pub returns-in_default : goal.returns-in_default
+returns-in_default c =
     let s = c.args.text.now in
     let i = c.loop-i.i in
     ap (option_map (λ bs. vec_items c.loop-i.bytes ++ bs))
-    (sym (pair-more s i (omega (arith, c.loop-i-test.true)) ∙ ap (λ o. led o (hex_bytes_of (drop (i + 2) s))) (sym c.in-default.ensures)))
+    (sym (pair-more s i (omega (arith, c.loop-i-test.true)) ∙ ap (λ o. led o (hex_bytes_of (drop (i + 2) s))) (sym c.in_default.ensures)))
     ∙ c.loop-i.invariant.1
 
 pub loop-i-preserved : goal.loop-i-preserved
@@ -19,7 +19,7 @@ loop-i-preserved c =
     let i = c.loop-i.i in
     let xs = vec_items c.loop-i.bytes in (
       omega (arith, c.loop-i-test.true),
-      ap (λ ys. option_map (λ bs. ys ++ bs) (hex_bytes_of (drop (i + 2) s))) c.in-ok-push.ensures.items
+      ap (λ ys. option_map (λ bs. ys ++ bs) (hex_bytes_of (drop (i + 2) s))) c.in_ok-push.ensures.items
           ∙ read_more xs c.in-Some.b (hex_bytes_of (drop (i + 2) s))
           ∙ ap (option_map (λ bs. xs ++ bs))
           (ap (λ o. led o (hex_bytes_of (drop (i + 2) s))) c.in-Some.ensures ∙ sym (pair-more s i (omega (arith, c.loop-i-test.true))))

@@ -10,11 +10,11 @@ loop-b-preserved c =
     let i = c.loop-b.b-index in
     let b = get_or s i 0 in
     let t = string_bytes c.loop-b.text in
-    let small : get_or s i 0 < 256 = (c.type-inv.bytes i).fits in
-    let p = c.in-ok-push.ensures.bytes ∙ ap (λ xs. t ++ xs) (c.in-ok-push.ensures.ascii (omega (arith, digit_ascii (b / 16) (omega arith), c.digit-of.ensures))) in
-    let q = c.in-ok-push-2.ensures.bytes ∙ ap (λ xs. string_bytes c.push.new.self ++ xs) (c.in-ok-push-2.ensures.ascii (omega (arith, digit_ascii (b % 16) (omega arith), c.digit-of-in-loop-b.ensures))) in
+    let small : get_or s i 0 < 256 = (c.type_inv.bytes i).fits in
+    let p = c.in_ok-push.ensures.bytes ∙ ap (λ xs. t ++ xs) (c.in_ok-push.ensures.ascii (omega (arith, digit_ascii (b / 16) (omega arith), c.digit_of.ensures))) in
+    let q = c.in_ok-push-2.ensures.bytes ∙ ap (λ xs. string_bytes c.push.new.self ++ xs) (c.in_ok-push-2.ensures.ascii (omega (arith, digit_ascii (b % 16) (omega arith), c.digit_of-in-loop-b.ensures))) in
     let w : string_bytes c.push-in-loop-b.new.self ≡ (t ++ (hex_digit (b / 16) ∷ [])) ++ (hex_digit (b % 16) ∷ []) =
-    q ∙ (λ j. (p ∙ ap (λ d. t ++ (d ∷ [])) c.digit-of.ensures) j ++ (c.digit-of-in-loop-b.ensures j ∷ [])) in
+    q ∙ (λ j. (p ∙ ap (λ d. t ++ (d ∷ [])) c.digit_of.ensures) j ++ (c.digit_of-in-loop-b.ensures j ∷ [])) in
     ap (λ xs. xs ++ hex_text_of (drop (i + 1) s)) w
     ∙ two-written t (hex_text_of (drop (i + 1) s)) (hex_digit (b / 16)) (hex_digit (b % 16))
     ∙ ap (λ xs. t ++ xs) (sym (text_more s i c.loop-b-test.true))

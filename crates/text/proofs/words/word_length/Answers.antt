@@ -4,14 +4,14 @@ use Rattle.text.specs.Words.{front_word}
 use Rattle.text.proofs.Pieces.{word_none, word_more}
 use Rattle.text.proofs.words.word_length.Goals as goal
 
-pub returns-then-is-blank : goal.returns-then-is-blank
-returns-then-is-blank c =
-    let e = word_none c.args.text.now c.loop-i.i c.loop-i-test.true (sym c.if-is-blank.ensures) in
+pub returns-then-is_blank : goal.returns-then-is_blank
+returns-then-is_blank c =
+    let e = word_none c.args.text.now c.loop-i.i c.loop-i-test.true (sym c.if-is_blank.ensures) in
     let i = c.loop-i.invariant in omega arith
 
 pub loop-i-preserved : goal.loop-i-preserved
 loop-i-preserved c =
-    let e = word_more c.args.text.now c.loop-i.i c.loop-i-test.true (sym c.if-is-blank.ensures) in
+    let e = word_more c.args.text.now c.loop-i.i c.loop-i-test.true (sym c.if-is_blank.ensures) in
     let i = c.loop-i.invariant in omega arith
 
 pub returns : goal.returns

@@ -19,14 +19,14 @@ returns c =
     let u = c.args.u in
     let n = c.args.n in
     let same = row_is rs k c.index-self-k.result (omega arith) (omega (arith, c.args.self.now.long)) in
-    let put = rows-set rs k c.set-number.new.self (omega arith) (omega (arith, c.args.self.now.long)) in
+    let put = rows-set rs k c.set_number.new.self (omega arith) (omega (arith, c.args.self.now.long)) in
     record {
       inside =
           λ _ h. put
-          ∙ (λ j a w. cond (eqb a k) ((c.set-number.ensures.inside h ∙ (λ i. row_with (same i) u n)) j w) (in_rows rs a w))
+          ∙ (λ j a w. cond (eqb a k) ((c.set_number.ensures.inside h ∙ (λ i. row_with (same i) u n)) j w) (in_rows rs a w))
           ∙ at_row (in_rows rs) (λ r. row_with r u n) k;
       outside =
           λ f. put
-          ∙ (λ j a w. cond (eqb a k) ((ap in_row (c.set-number.ensures.outside (λ h. f ((omega arith, omega arith), h))) ∙ same) j w) (in_rows rs a w))
+          ∙ (λ j a w. cond (eqb a k) ((ap in_row (c.set_number.ensures.outside (λ h. f ((omega arith, omega arith), h))) ∙ same) j w) (in_rows rs a w))
           ∙ at_row (in_rows rs) (λ r. r) k ∙ kept (in_rows rs) k;
     }
