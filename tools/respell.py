@@ -146,7 +146,7 @@ def imported(source):
 def turn(source, turned, skip):
     def one(m):
         w = m[0]
-        if source[max(0, m.start() - 2) : m.start()] in ("c.", "l.") or source[max(0, m.start() - 5) : m.start()] == "goal.":
+        if re.search(r"(^|[^\w'])(c|l|goal)\.$", source[max(0, m.start() - 6) : m.start()]):
             return w
         return turned[w] if w in turned and w not in skip else w
     return re.sub(r"(?<![\w'-])[A-Za-z][\w'-]*(?![\w'-])", one, source)

@@ -5,10 +5,10 @@ use Rattle.readers.specs.declared.reader.RecordPart.{RecordPart}
 use Rattle.readers.specs.Told.{part_of, Sized}
 use Rattle.readers.proofs.reader.parts.body_of.Goals as goal
 
-pub overflow-add-result : goal.overflow-add-result
-overflow-add-result g c =
+pub overflow_add-result : goal.overflow_add-result
+overflow_add-result g c =
     let f = g.V.Kind.format in
     let x = unlawful_of c.in-Err.inner in
     let sized = subst (λ (p : RecordPart). Sized f.width (part_of p)) c.in-Booked.is c.requires in
     let near = g.met.V.Kind.lawful.near c.in-Booked.p.bytes.now x sized.0 (ap (refused_as unlawful_of) (sym c.in-Err.ensures)) in
-    omega (arith, sized.1, c.place-in.ensures)
+    omega (arith, sized.1, c.place_in.ensures)
