@@ -26,7 +26,7 @@ returns-in-Some c =
     let k = c.args.k in
     let u = c.loop-u.u in
     let f = found (bad_number S w (k, u)) c.in-Some.ground (ground_of S w (k, u)) c.in-Some.ensures in
-    (λ j. Err (Table (c.place-of-place.ensures.value j) (f.1 j)))
+    (λ j. Err (Table (c.place_of-place.ensures.value j) (f.1 j)))
     ∙ ap (λ (o : Option (ℕ × ℕ)). none_of o (λ x. Table (place_of N x.0 x.1) (ground_of S w x)))
     (sym (row_here (bad_number S w) N k u (omega arith) f.0) ∙ c.loop-u.invariant)
 
@@ -37,4 +37,4 @@ loop-u-preserved c =
     let w = c.args.writer in
     let k = c.args.k in
     let u = c.loop-u.u in
-    sym (row_on (bad_number S w) N k u (omega arith) (not_found (bad_number S w (k, u)) (ground_of S w (k, u)) c.in-default.ensures)) ∙ c.loop-u.invariant
+    sym (row_on (bad_number S w) N k u (omega arith) (not_found (bad_number S w (k, u)) (ground_of S w (k, u)) c.in_default.ensures)) ∙ c.loop-u.invariant

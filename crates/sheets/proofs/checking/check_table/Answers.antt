@@ -10,16 +10,16 @@ use Rattle.sheets.specs.Judged.{ground_of, row_judged}
 use Rattle.sheets.proofs.Steps.{from_row, rows_step}
 use Rattle.sheets.proofs.checking.check_table.Goals as goal
 
-pub returns-in-err-check-row : goal.returns-in-err-check-row
-returns-in-err-check-row c =
+pub returns-in_err-check_row : goal.returns-in_err-check_row
+returns-in_err-check_row c =
     let S = number c.args.table.now in
     let N = c.args.seat.sites in
     let w = c.args.writer in
     let k = c.loop-k.k in
     let g : ℕ × ℕ → SheetRefusal = λ x. Table (place_of N x.0 x.1) (ground_of S w x) in
-    let p = err_from_is_err_and c.from-residual.result c.from-residual.ensures.1 in
+    let p = err_from_is_err_and c.from_residual.result c.from_residual.ensures.1 in
     rw (p.1, p.2)
-    (sym (then_err (row_judged N w S k) c.in-err-check-row.field-0.0 (λ _. from_row (bad_number S w) g N (k + 1)) (sym c.in-err-check-row.ensures))
+    (sym (then_err (row_judged N w S k) c.in_err-check_row.field-0.0 (λ _. from_row (bad_number S w) g N (k + 1)) (sym c.in_err-check_row.ensures))
     ∙ sym (rows_step (bad_number S w) g N k (omega arith)) ∙ c.loop-k.invariant)
 
 pub loop-k-preserved : goal.loop-k-preserved
@@ -30,5 +30,5 @@ loop-k-preserved c =
     let k = c.loop-k.k in
     let g : ℕ × ℕ → SheetRefusal = λ x. Table (place_of N x.0 x.1) (ground_of S w x) in
     let next = from_row (bad_number S w) g N (k + 1) in
-    sym (then_ok (row_judged N w S k) tt (λ _. next) next (sym c.in-ok-check-row.ensures) (λ _. next))
+    sym (then_ok (row_judged N w S k) tt (λ _. next) next (sym c.in_ok-check_row.ensures) (λ _. next))
     ∙ sym (rows_step (bad_number S w) g N k (omega arith)) ∙ c.loop-k.invariant

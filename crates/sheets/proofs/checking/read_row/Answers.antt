@@ -15,8 +15,8 @@ pub loop-u-preserved : goal.loop-u-preserved
 loop-u-preserved c =
     let S = table_at c.args.seat.sites c.args.bytes.now in
     let u = c.loop-u.u in
-    c.set-number.ensures.inside (omega arith, omega arith)
-    ∙ (λ j. row_with (c.loop-u.invariant j) u (c.read-number.ensures j))
+    c.set_number.ensures.inside (omega arith, omega arith)
+    ∙ (λ j. row_with (c.loop-u.invariant j) u (c.read_number.ensures j))
     ∙ row_more (S c.args.k) u
 
 pub returns : goal.returns

@@ -16,8 +16,8 @@ pub loop-k-preserved : goal.loop-k-preserved
 loop-k-preserved c =
     let S = table_at c.args.seat.sites c.args.bytes.now in
     let k = c.loop-k.k in
-    c.raise-row.ensures.inside (omega arith, omega arith)
-    ∙ (λ j. row_raised (c.loop-k.invariant j) k (c.read-row.ensures j))
+    c.raise_row.ensures.inside (omega arith, omega arith)
+    ∙ (λ j. row_raised (c.loop-k.invariant j) k (c.read_row.ensures j))
     ∙ raised-more (λ _ _. 0) S k
 
 pub returns : goal.returns

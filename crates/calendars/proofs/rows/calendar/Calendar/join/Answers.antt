@@ -23,8 +23,8 @@ write-requires g c =
     let e = length-take-le s.rows.len s.rows.rows.now s.within in
     record { at = omega arith; within = s.within }
 
-pub invariant-of-self : goal.invariant-of-self
-invariant-of-self g c =
+pub invariant_of-self : goal.invariant_of-self
+invariant_of-self g c =
     let s = c.args.self.now in
     let f = g.V.Kind.format in
     let rs = in_use s.rows in
@@ -106,8 +106,8 @@ returns-then-len-room g c =
       behind = refl;
     }
 
-pub invariant-of-self-2 : goal.invariant-of-self-2
-invariant-of-self-2 g c =
+pub invariant_of-self-2 : goal.invariant_of-self-2
+invariant_of-self-2 g c =
     let s = c.args.self.now in
     let f = g.V.Kind.format in
     let rs = in_use s.rows in

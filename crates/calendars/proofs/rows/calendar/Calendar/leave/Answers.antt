@@ -20,8 +20,8 @@ remove-requires g c =
     let e = length-take-le s.rows.len s.rows.rows.now s.within in
     record { at = omega arith; within = s.within }
 
-pub invariant-of-self : goal.invariant-of-self
-invariant-of-self g c =
+pub invariant_of-self : goal.invariant_of-self
+invariant_of-self g c =
     let s = c.args.self.now in
     let f = g.V.Kind.format in
     let rs = in_use s.rows in

@@ -9,6 +9,6 @@ pub returns : goal.returns
 returns g c =
     let rs = in_use c.args.self.now.rows in
     let at = c.args.at in
-    c.entry-at.ensures
+    c.entry_at.ensures
     ∙ after-rows g.V.Kind.format rs at.site at.number c.rank-i.result
     (c.rank-i.ensures.value ∙ (λ t. rank site_of number_of (c.site.ensures.value t) (c.number.ensures.value t + 1) rs))
