@@ -15,8 +15,8 @@ returns g c = λ p e w t.
     let i = c.args.seat.own in
     let bs = c.args.bytes.now in
     let F = (made_at (read K N i None bs) (Said K N i bs None) p (read_fits K N i bs None) e).0 in
-    let rows = c.in-ok-rows.ensures ∙ ap (λ T. rows_text T N) (sym t) in
-    let records = c.in-ok-records.ensures ∙ ap (records_text words) (c.new.ensures.read None p e w t) in
+    let rows = c.in_ok-rows.ensures ∙ ap (λ T. rows_text T N) (sym t) in
+    let records = c.in_ok-records.ensures ∙ ap (records_text words) (c.new.ensures.read None p e w t) in
     made_with c.format.result _ _ c.format.ensures.ok
     (λ s q. q
     ∙ (λ j. codes "sheet from site " ++ (decimal (sym w j) ++ (codes " for site " ++ (decimal (sym F.addressee j) ++ (rows j ++ records j))))))

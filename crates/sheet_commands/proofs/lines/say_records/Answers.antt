@@ -10,5 +10,5 @@ loop-x-preserved g c =
     let t = string_bytes c.loop-x.text in
     let rest = g.R.Records.coming c.next.new.self in
     piece t (record_line words (record_of c.in-Some.x)) (records_text words rest) _ _
-    (c.in-ok-push-str.ensures.bytes ∙ ap (λ b. t ++ b) (c.deref.ensures ∙ c.in-ok-line.ensures))
+    (c.in_ok-push_str.ensures.bytes ∙ ap (λ b. t ++ b) (c.deref.ensures ∙ c.in_ok-line.ensures))
     (ap (λ rs. t ++ records_text words rs) (sym c.in-Some.ensures) ∙ c.loop-x.invariant)

@@ -11,7 +11,7 @@ loop-u-init c =
     let T = number c.args.table.now in
     let n = c.args.n in
     let k = c.args.k in
-    ap (λ t. t ++ flat_map (cell_text T) (run k 1 (n + 1 - 1))) c.in-ok-text.ensures.ok
+    ap (λ t. t ++ flat_map (cell_text T) (run k 1 (n + 1 - 1))) c.in_ok-text.ensures.ok
     ∙ ap (λ x. (10 ∷ codes "row ") ++ x) (row_front T n k (decimal k))
 
 pub loop-u-preserved : goal.loop-u-preserved
@@ -21,7 +21,7 @@ loop-u-preserved c =
     let k = c.args.k in
     let u = c.loop-u.u in
     piece (string_bytes c.loop-u.text) (cell_text T (k, u)) (flat_map (cell_text T) (run k (u + 1) (n + 1 - (u + 1)))) (row_line T n k) _
-    (c.in-ok-push-str.ensures.bytes
+    (c.in_ok-push_str.ensures.bytes
     ∙ ap (λ b. string_bytes c.loop-u.text ++ b)
-    (c.deref.ensures ∙ c.in-ok-word.ensures.ok ∙ ap (λ x. 32 ∷ decimal x) c.number-number.ensures))
+    (c.deref.ensures ∙ c.in_ok-word.ensures.ok ∙ ap (λ x. 32 ∷ decimal x) c.number-number.ensures))
     (ap (λ b. string_bytes c.loop-u.text ++ b) (sym (cell-next T k n u (omega arith))) ∙ c.loop-u.invariant)

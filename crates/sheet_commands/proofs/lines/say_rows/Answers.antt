@@ -10,6 +10,6 @@ loop-k-preserved c =
     let n = c.args.n in
     let k = c.loop-k.k in
     piece (string_bytes c.loop-k.text) (row_line T n k) (rows_from T n (k + 1) (n + 1 - (k + 1))) (rows_text T n) _
-    (c.in-ok-push-str.ensures.bytes
-    ∙ ap (λ b. string_bytes c.loop-k.text ++ b) (c.deref.ensures ∙ c.in-ok-line.ensures))
+    (c.in_ok-push_str.ensures.bytes
+    ∙ ap (λ b. string_bytes c.loop-k.text ++ b) (c.deref.ensures ∙ c.in_ok-line.ensures))
     (ap (λ b. string_bytes c.loop-k.text ++ b) (sym (row_next T n k (omega arith))) ∙ c.loop-k.invariant)

@@ -13,5 +13,5 @@ returns-in-Ok g c =
     let h = c.in-Ok.ensures in
     let m = read (rule_of g.V.Kind.format) N c.args.seat.own None c.args.bytes.now in
     let p = read-from m c.in-Ok.checked.writer (number c.in-Ok.checked.table) h.rules in
-    made_with c.say-checked.result _ _ (c.say-checked.ensures p.0 p.1 p.2 p.3)
+    made_with c.say_checked.result _ _ (c.say_checked.ensures p.0 p.1 p.2 p.3)
     (λ s q. q ∙ (λ j. told_of g.V.InWords.words N (h.value j) (sym p.1 j)))

@@ -38,16 +38,12 @@ invariant_of-self g c =
     let z = c.write.ensures.size in
     let w = ap (entries_in f) used ∙ wrote f rs s.ascending at.site at.number i found c.of-row.result v c.of-row.ensures.keeps has in
     let a : c.write.new.self.len ≤ length c.write.new.self.rows.now = omega (arith, s.within) in
-    let b : c.write.new.self.len ≤ 4096 = omega (arith, s.few) in (
-      a,
-      (
-        b,
-        (
-          subst (λ zs. list_all sound zs ≡ true) (sym used) (all_set sound rs i c.of-row.result c.of-row.ensures.sound s.stamped),
-          (join_rises f rs s.ascending (at.site, at.number, v) _ w, tt),
-        ),
-      ),
-    )
+    let b : c.write.new.self.len ≤ 4096 = omega (arith, s.few) in record {
+      within = a;
+      few = b;
+      stamped = subst (λ zs. list_all sound zs ≡ true) (sym used) (all_set sound rs i c.of-row.result c.of-row.ensures.sound s.stamped);
+      ascending = join_rises f rs s.ascending (at.site, at.number, v) _ w;
+    }
 
 pub returns-then-has : goal.returns-then-has
 returns-then-has g c =
@@ -122,16 +118,12 @@ invariant_of-self-2 g c =
     let z = c.insert.ensures.size in
     let w = ap (entries_in f) used ∙ went_in f rs s.ascending at.site at.number i found c.of-row.result v c.of-row.ensures.keeps has in
     let a : c.insert.new.self.len ≤ length c.insert.new.self.rows.now = omega (arith, s.within) in
-    let b : c.insert.new.self.len ≤ 4096 = omega (arith, s.few) in (
-      a,
-      (
-        b,
-        (
-          subst (λ zs. list_all sound zs ≡ true) (sym used) (all_inserted sound rs i c.of-row.result c.of-row.ensures.sound s.stamped),
-          (join_rises f rs s.ascending (at.site, at.number, v) _ w, tt),
-        ),
-      ),
-    )
+    let b : c.insert.new.self.len ≤ 4096 = omega (arith, s.few) in record {
+      within = a;
+      few = b;
+      stamped = subst (λ zs. list_all sound zs ≡ true) (sym used) (all_inserted sound rs i c.of-row.result c.of-row.ensures.sound s.stamped);
+      ascending = join_rises f rs s.ascending (at.site, at.number, v) _ w;
+    }
 
 pub returns : goal.returns
 returns g c =

@@ -34,16 +34,12 @@ invariant_of-self g c =
     let z = c.remove.ensures.size in
     let w = ap (entries_in f) used ∙ went_out f rs s.ascending at.site at.number i found has in
     let a : c.remove.new.self.len ≤ length c.remove.new.self.rows.now = omega (arith, s.within) in
-    let b : c.remove.new.self.len ≤ 4096 = omega (arith, s.few) in (
-      a,
-      (
-        b,
-        (
-          subst (λ zs. list_all sound zs ≡ true) (sym used) (all_append sound (take i rs) (drop (suc i) rs) (all_take sound i rs s.stamped) (all_drop sound (suc i) rs s.stamped)),
-          (leave_rises f rs s.ascending at.site at.number _ w, tt),
-        ),
-      ),
-    )
+    let b : c.remove.new.self.len ≤ 4096 = omega (arith, s.few) in record {
+      within = a;
+      few = b;
+      stamped = subst (λ zs. list_all sound zs ≡ true) (sym used) (all_append sound (take i rs) (drop (suc i) rs) (all_take sound i rs s.stamped) (all_drop sound (suc i) rs s.stamped));
+      ascending = leave_rises f rs s.ascending at.site at.number _ w;
+    }
 
 pub returns-then-has : goal.returns-then-has
 returns-then-has g c =
