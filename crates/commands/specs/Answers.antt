@@ -1,6 +1,6 @@
 -- What is printed for a line of input.
 -- Assumes nothing.
-use Rattle.std.specs.Prelude.{ℕ, Bool, cond, not, ◌&&◌, ◌||◌, List, [], ◌∷◌, ◌++◌, length, Ok, Err, codes, decimal, Result, ◌==◌}
+use Rattle.std.specs.Prelude.{ℕ, Bool, cond, not, ◌&&◌, ◌||◌, List, [], ◌++◌, length, Ok, Err, codes, decimal, Result, ◌==◌}
 use Rattle.std.specs.Str.{bytes_eq}
 use Rattle.rules.specs.Stamps as rules
 use Rattle.text.specs.Words.{word, behind}

@@ -1,6 +1,6 @@
 -- Entries that are written in words.
 -- Assumes nothing.
-use Rattle.std.specs.Prelude.{ℕ, min, cond, List, length, Some, None, Ok, Err, Option, Result, ◌==◌, slice_index}
+use Rattle.std.specs.Prelude.{ℕ, min, List, length, Some, None, Ok, Err, Option, Result, ◌==◌, slice_index}
 use Rattle.rules.specs.Results.{◌>>=◌, require, refused_as}
 use Rattle.text.specs.Decimals.{decimal_of, capped}
 use Rattle.dates.specs.Days.{day_at}

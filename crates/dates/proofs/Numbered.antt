@@ -2,7 +2,7 @@
 use Rattle.std.proofs.Common.{◌≡◌, ℕ, zero, suc, ◌+◌, ◌-◌, ◌<◌, ◌≤◌, Bool, true, false, cond, ◌&&◌, ltb, leb, sym, refl, ap, ◌∙◌, subst, add-zero, arith, ltb-false, ltb-true, le-leb, leb-true}
 use Rattle.std.proofs.lemmas.Bool.Decides.{nat_tests}
 use Rattle.dates.specs.declared.date.Date.{Date}
-use Rattle.dates.specs.Lengths.{days_of_month, total, months_before, days_of_year, years_before}
+use Rattle.dates.specs.Lengths.{days_of_month, months_before, days_of_year, years_before}
 use Rattle.dates.specs.Days.{date, next_date, date_of_day, known, past, number}
 use Rattle.dates.proofs.Sums.{by_test, total-below, one_place, months_more, years_more}
 

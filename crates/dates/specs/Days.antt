@@ -1,6 +1,6 @@
 -- Days by number and by date: day 0 is 1 January 2000, and each day is followed by the next date.
 -- Assumes nothing.
-use Rattle.std.specs.Prelude.{◌≡◌, ℕ, zero, suc, ◌+◌, ◌-◌, ◌/◌, ◌%◌, ◌≤◌, Bool, cond, ◌&&◌, List, [], ◌∷◌, ◌++◌, Some, None, decimal, Option, ◌≢◌, nat_le, nat_lt}
+use Rattle.std.specs.Prelude.{◌≡◌, ℕ, zero, suc, ◌+◌, ◌-◌, ◌/◌, ◌%◌, ◌≤◌, Bool, cond, ◌&&◌, List, ◌∷◌, ◌++◌, Some, None, decimal, Option, ◌≢◌, nat_le, nat_lt}
 use Rattle.dates.specs.declared.date.Date.{Date}
 use Rattle.dates.specs.Lengths.{days_of_month, months_before, years_before}
 

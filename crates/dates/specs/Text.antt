@@ -2,7 +2,7 @@
 -- Assumes nothing.
 use Rattle.std.specs.Prelude.{ℕ, cond, List, Some, None, Option, nat_lt}
 use Rattle.text.specs.Decimals.{decimal_of, capped}
-use Rattle.text.specs.Splits.{Parts, split_at}
+use Rattle.text.specs.Splits.{split_at}
 use Rattle.dates.specs.declared.date.Date.{Date}
 use Rattle.dates.specs.Days.{date}
 

@@ -1,17 +1,13 @@
 -- Bookings and their bytes: values and lawful strings match one to one.
-use Rattle.std.specs.Prelude.{◌≡◌, ℕ, zero, suc, ◌+◌, ◌*◌, ◌/◌, ◌%◌, ◌<◌, ◌≤◌, min, List, [], ◌∷◌, ◌++◌, length, Some, None, Ok, Err, Option, Result, slice_index, refl}
+use Rattle.std.specs.Prelude.{◌≡◌, ℕ, zero, suc, ◌+◌, ◌*◌, ◌/◌, ◌%◌, ◌<◌, ◌≤◌, List, [], ◌∷◌, ◌++◌, length, Some, None, Ok, Option, slice_index, refl}
 use Rattle.std.proofs.Common.{sym, ◌∙◌, ap, arith}
 use Rattle.std.proofs.Math.Decide.{dec_le, ℕ_discrete}
 use Rattle.rules.specs.Numbers.{be16, at16}
 use Rattle.rules.specs.Kinds.{LawfulKind}
-use Rattle.rules.specs.Refusals.{Unlawful}
 use Rattle.rules.specs.Results.{refused_as}
-use Rattle.kinds.specs.declared.refusal.EntryRefusal.{EntryRefusal}
-use Rattle.kinds.specs.declared.refusal.EntryRefusal.TheVariants as refused
 use Rattle.kinds.specs.declared.booking.Booking.{Booking}
 use Rattle.kinds.specs.declared.booking.Work.{Work}
 use Rattle.kinds.specs.declared.booking.Work.TheVariants.{Retrofit, Trial, Freeze}
-use Rattle.kinds.specs.Choice.{choose, pick}
 use Rattle.kinds.specs.Formats.{rule_of}
 use Rattle.kinds.specs.Refused.{unlawful_of}
 use Rattle.kinds.specs.Bookings.{work_byte, work_of, booking_bytes, booking_from, booking_of, bookings}

@@ -1,6 +1,6 @@
 -- A value chosen by a decision.
 -- Assumes nothing.
-use Rattle.std.specs.Prelude.{ℕ, Some, None, Option}
+use Rattle.std.specs.Prelude.{Some, None, Option}
 
 -- y at a proof of P, and n where there is none
 abbrev pub choose : {P X : Type 0} → Dec P → X → (P → X) → X

@@ -1,6 +1,6 @@
 -- Decisions whose answer is known, values that were chosen by one, and lists that are written out.
 use Rattle.std.specs.Prelude.{◌≡◌, ℕ, zero, suc, ◌<◌, ◌≤◌, List, [], ◌∷◌, length, Some, None, Ok, Err, Option, Result, ◌≢◌, slice_index, refl}
-use Rattle.std.proofs.Common.{sym, ◌∙◌, ap, arith, lit<}
+use Rattle.std.proofs.Common.{sym, ap, arith, lit<}
 use mathlib.Core.HLevel.{hedberg}
 use Rattle.std.proofs.Math.Bridge.{le_prop}
 use Rattle.std.proofs.Math.Decide.{dec_le, ℕ_discrete}

@@ -1,5 +1,5 @@
 -- Notices and their bytes: values and lawful strings match one to one.
-use Rattle.std.specs.Prelude.{◌≡◌, ℕ, zero, suc, ◌+◌, ◌*◌, ◌/◌, ◌%◌, ◌<◌, ◌≤◌, List, [], ◌∷◌, ◌++◌, length, drop, Ok, Err, Result, ◌≢◌, slice_index, refl}
+use Rattle.std.specs.Prelude.{◌≡◌, ℕ, zero, suc, ◌+◌, ◌*◌, ◌/◌, ◌%◌, ◌<◌, ◌≤◌, List, [], ◌∷◌, ◌++◌, length, drop, Ok, Err, ◌≢◌, slice_index, refl}
 use Rattle.std.proofs.Common.{sym, ◌∙◌, ap, subst, arith}
 use mathlib.Core.HLevel.{hedberg}
 use Rattle.std.proofs.Math.Decide.{dec_le, ℕ_discrete}
@@ -10,7 +10,6 @@ use Rattle.std.proofs.lemmas.Bool.Decides.{nat_tests}
 use Rattle.rules.specs.Numbers.{be16, at16}
 use Rattle.rules.specs.Kinds.{LawfulKind}
 use Rattle.rules.specs.Results.{refused_as}
-use Rattle.kinds.specs.declared.refusal.EntryRefusal.{EntryRefusal}
 use Rattle.kinds.specs.declared.refusal.EntryRefusal.TheVariants as refused
 use Rattle.kinds.specs.declared.refusal.Field.TheVariants as fields
 use Rattle.kinds.specs.declared.notice.Notice.{Notice}

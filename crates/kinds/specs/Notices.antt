@@ -1,6 +1,6 @@
 -- Notices: a tag, and then the line and the day in two bytes each, or four letters.
 -- Assumes nothing.
-use Rattle.std.specs.Prelude.{ℕ, ◌+◌, ◌≤◌, List, [], ◌∷◌, ◌++◌, length, Ok, Err, codes, decimal, Result, slice_index, refl}
+use Rattle.std.specs.Prelude.{ℕ, ◌+◌, List, [], ◌∷◌, ◌++◌, length, Ok, Err, codes, decimal, Result, slice_index, refl}
 use Rattle.std.proofs.Math.Decide.{dec_le, ℕ_discrete}
 use Rattle.std.proofs.Common.{lit≤}
 use Rattle.rules.specs.Numbers.{be16, at16}

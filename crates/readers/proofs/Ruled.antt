@@ -1,5 +1,5 @@
 -- A record is judged as the rules judge it: the refusals differ only in what they say is wrong.
-use Rattle.std.proofs.Common.{◌≡◌, ℕ, ◌+◌, Bool, true, false, cond, ◌&&◌, eqb, ltb, leb, List, length, get_or, take, drop, Ok, Err, Result, refl, ap, ◌∙◌}
+use Rattle.std.proofs.Common.{◌≡◌, ℕ, ◌+◌, Bool, true, false, cond, ◌&&◌, eqb, ltb, leb, List, length, get_or, Ok, Err, Result, refl, ap, ◌∙◌}
 use Rattle.rules.specs.Results.{◌>>=◌, require, refused_as}
 use Rattle.rules.specs.Refusals.{bad_record, bad_entry_at}
 use Rattle.rules.specs.Numbers.{at32}
@@ -10,10 +10,9 @@ use Rattle.kinds.specs.declared.refusal.EntryRefusal.{EntryRefusal}
 use Rattle.kinds.specs.Formats.{Format, rule_of}
 use Rattle.kinds.specs.Refused.{unlawful_of}
 use Rattle.readers.specs.declared.refusal.RecordByte.TheVariants.{StruckSite, StruckNumber}
-use Rattle.readers.specs.declared.refusal.SheetRefusal.{SheetRefusal}
 use Rattle.readers.specs.declared.refusal.SheetRefusal.TheVariants.{EndsEarly, Record, Entry}
 use Rattle.readers.specs.Refused.{refusal_of}
-use Rattle.readers.specs.Judged.{cut_judged, part_judged, struck_judged, body_judged, record_judged}
+use Rattle.readers.specs.Judged.{cut_judged, part_judged, body_judged, record_judged}
 
 -- step by step
 pub then_as : {A B X Y : Type 0} (g : X → Y) (m : Result A X) (h : A → Result B X) (n : Result A Y) (k : A → Result B Y) →

@@ -1,6 +1,6 @@
 -- What is printed for a command that looks at a sheet.
 -- Assumes nothing.
-use Rattle.std.specs.Prelude.{ℕ, min, Bool, cond, not, ◌&&◌, ◌||◌, List, length, Some, None, Ok, Err, codes, Option, Result, ◌==◌}
+use Rattle.std.specs.Prelude.{ℕ, min, Bool, cond, not, ◌&&◌, List, length, Some, None, Ok, Err, codes, Option, Result, ◌==◌}
 use Rattle.std.specs.Str.{bytes_eq}
 use Rattle.rules.specs.Results.{◌>>=◌, refused_as}
 use Rattle.text.specs.Decimals.{decimal_of, capped}

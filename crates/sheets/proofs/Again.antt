@@ -1,5 +1,5 @@
 -- What was read of a sheet is read again.
-use Rattle.std.proofs.Common.{◌≡◌, ℕ, ◌≤◌, min, Bool, true, false, cond, ◌&&◌, eqb, List, [], ◌∷◌, length, IfOk, Ok, Err, Option, Result, sym, refl, ap, ◌∙◌, arith}
+use Rattle.std.proofs.Common.{◌≡◌, ℕ, ◌≤◌, ◌&&◌, eqb, List, [], ◌∷◌, length, IfOk, Ok, Err, Option, Result, refl, ap, ◌∙◌, arith}
 use Rattle.std.proofs.lemmas.Bool.{cond_both, and_parts}
 use Rattle.rules.specs.Results.{◌>>=◌}
 use Rattle.rules.specs.Refusals.{Refusal, bytes_behind}

@@ -1,7 +1,7 @@
 -- The parts of a check make the whole.
 use Rattle.std.proofs.Common.{◌≡◌, ℕ, ◌≤◌, leb, List, length, Ok, Err, Option, Result, sym, refl, ap, ◌∙◌}
 use Rattle.std.proofs.lemmas.Bool.{le-leb}
-use Rattle.rules.specs.Results.{◌>>=◌, require}
+use Rattle.rules.specs.Results.{◌>>=◌}
 use Rattle.rules.specs.Tables.{Table}
 use Rattle.rules.specs.Sheets.{stamps, front_length}
 use Rattle.rules.specs.Reading.{table_at}

@@ -1,15 +1,14 @@
 -- A sheet is judged as the rules judge it: the refusals differ only in what they say is wrong.
-use Rattle.std.proofs.Common.{◌≡◌, ℕ, ◌≤◌, Bool, true, false, cond, not, ◌&&◌, eqb, leb, List, [], ◌∷◌, length, get_or, Some, None, Ok, Err, Option, Result, sym, refl, ap, ◌∙◌, arith}
-use Rattle.std.proofs.lemmas.Bool.{leb-true, ltb-false, or_parts}
+use Rattle.std.proofs.Common.{◌≡◌, ℕ, Bool, true, false, not, ◌&&◌, eqb, leb, List, [], ◌∷◌, length, get_or, Some, None, Ok, Err, Option, Result, refl, ◌∙◌, arith}
+use Rattle.std.proofs.lemmas.Bool.{ltb-false, or_parts}
 use Rattle.rules.specs.Results.{◌>>=◌, require, none_of, refused_as, first}
 use Rattle.rules.specs.Refusals.{Refusal, ends_early, bad_table, bytes_behind}
 use Rattle.rules.specs.Numbers.{at32}
-use Rattle.rules.specs.Stamps.{Stamp, Within, within}
+use Rattle.rules.specs.Stamps.{Stamp, within}
 use Rattle.rules.specs.Records.{Body, Record}
 use Rattle.rules.specs.Tables.{Table}
 use Rattle.rules.specs.Sheets.{Sheet, cells, stamps, place_of, front_length}
-use Rattle.rules.specs.Reading.{table_at, bad_number, head_read, table_checked, own_checked, ahead, record_at, records_at, records_read, read}
-use Rattle.rules.proofs.Refusing.{none_ok}
+use Rattle.rules.specs.Reading.{table_at, bad_number, head_read, own_checked, ahead, record_at, records_at, records_read, read}
 use Rattle.rules.proofs.Searching.{none_found}
 use Rattle.rules.proofs.Sequences.{in_runs}
 use Rattle.rules.proofs.Tables.{inside, same-restricted}
@@ -21,7 +20,7 @@ use Rattle.readers.specs.Capped.{capped}
 use Rattle.readers.specs.Judged.{record_judged}
 use Rattle.readers.specs.Refused.{refusal_of}
 use Rattle.readers.proofs.Ruled.{then_as, test_as, record_ruled}
-use Rattle.sheets.specs.Judged.{head_judged, ground_of, table_judged, own_judged, ends_judged, records_judged, sheet_judged}
+use Rattle.sheets.specs.Judged.{head_judged, ground_of, own_judged, ends_judged, records_judged, sheet_judged}
 use Rattle.sheets.specs.Told.{without_records}
 use Rattle.sheets.proofs.Again.{uncapped}
 

@@ -1,13 +1,8 @@
 -- Going through the stamps of a sheet's records, and through the records.
-use Rattle.std.proofs.Common.{◌≡◌, ℕ, zero, suc, ◌+◌, ◌-◌, ◌<◌, ◌≤◌, cond, ltb, List, [], ◌∷◌, ◌++◌, Ok, Err, Result, sym, refl, ap, ◌∙◌, inl, inr, arith}
+use Rattle.std.proofs.Common.{◌≡◌, ℕ, suc, ◌+◌, ◌-◌, ◌<◌, ◌≤◌, ltb, [], ◌∷◌, ◌++◌, sym, ap, ◌∙◌, inl, inr, arith}
 use Rattle.std.proofs.lemmas.Bool.{cond-true, cond-false, lt-ltb, le-ltb, cases_lt}
-use Rattle.rules.specs.Refusals.{Refusal}
-use Rattle.rules.specs.Kinds.{Kind}
-use Rattle.rules.specs.Records.{Body, Record}
-use Rattle.rules.specs.Stamps.{Stamp}
 use Rattle.rules.specs.Sheets.{run, runs}
-use Rattle.rules.specs.Reading.{record_at}
-use Rattle.sheets.specs.Coming.{more, read_all, left, stamps_left}
+use Rattle.sheets.specs.Coming.{left, stamps_left}
 
 module _ (N : ℕ) (known credited : ℕ → ℕ) where
   takes : (u n : ℕ) → n ≤ known u → left N known credited u n ≡ (u, n) ∷ left N known credited u (n + 1)

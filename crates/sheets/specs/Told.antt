@@ -1,6 +1,6 @@
 -- The code's answers of checking a sheet, as the rules have them.
 -- Assumes nothing.
-use Rattle.std.specs.Prelude.{◌≡◌, ℕ, cond, List, Some, None, Ok, Err, Option, Result}
+use Rattle.std.specs.Prelude.{ℕ, cond, Some, None, Ok, Err, Option, Result}
 use Rattle.rules.specs.Refusals.{Refusal}
 use Rattle.rules.specs.Tables.{Table}
 use Rattle.rules.specs.Sheets.{Sheet}

@@ -1,6 +1,6 @@
 -- The words of a line: what stands between blanks.
 -- Assumes nothing.
-use Rattle.std.specs.Prelude.{ℕ, Bool, cond, not, ◌||◌, List, [], ◌∷◌, ◌==◌}
+use Rattle.std.specs.Prelude.{ℕ, Bool, cond, ◌||◌, List, [], ◌∷◌, ◌==◌}
 
 -- a blank, a tab, a line feed or a carriage return
 abbrev pub blank : ℕ → Bool

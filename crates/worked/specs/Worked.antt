@@ -9,8 +9,8 @@ use Rattle.kinds.specs.Bookings.{bookings}
 use Rattle.kinds.specs.Formats.{rule_of}
 use Rattle.rules.specs.Kinds.{Kind}
 use Rattle.rules.specs.Stamps.{Stamped}
-use Rattle.rules.specs.Records.{Body, booked, struck, Entry}
-use Rattle.rules.specs.Stores.{Limits, ring_limits}
+use Rattle.rules.specs.Records.{booked, struck, Entry}
+use Rattle.rules.specs.Stores.{ring_limits}
 use Rattle.rules.specs.Tables.{Table}
 use Rattle.rules.specs.Sheets.{cells, written}
 use Rattle.rules.specs.Sites.{Setting, State, fresh, book, strike, write, sheet_bytes, accept}

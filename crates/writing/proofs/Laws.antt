@@ -1,5 +1,5 @@
 -- Writing over a buffer, part behind part.
-use Rattle.std.proofs.Common.{◌≡◌, ℕ, suc, ◌+◌, ◌-◌, ◌<◌, ◌≤◌, List, [], ◌∷◌, ◌++◌, length, take, drop, set, sym, refl, ap, ◌∙◌, ap₂, add-zero, arith}
+use Rattle.std.proofs.Common.{◌≡◌, ℕ, suc, ◌+◌, ◌-◌, ◌<◌, ◌≤◌, List, [], ◌∷◌, ◌++◌, length, take, drop, set, sym, ap, ◌∙◌, add-zero, arith}
 use Rattle.std.proofs.lemmas.List.{drop-drop, append_assoc, length-append, length-take, length-drop, take_at, drop_at, take-append-drop, set_split}
 use borrow.Rule.Slice.PartMut.{put_mid}
 use Rattle.writing.specs.Filled.{over}

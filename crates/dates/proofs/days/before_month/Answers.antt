@@ -1,4 +1,4 @@
-use Rattle.std.proofs.Common.{◌≡◌, ◌+◌, ◌-◌, sym, ap, ◌∙◌, arith}
+use Rattle.std.proofs.Common.{◌≡◌, ◌+◌, ◌-◌, ap, arith}
 use Rattle.dates.specs.Lengths.{months_before}
 use Rattle.dates.proofs.Sums.{months_more}
 use Rattle.dates.proofs.days.before_month.Goals as goal

@@ -1,4 +1,4 @@
-use Rattle.std.proofs.Common.{◌≡◌, ◌+◌, ◌-◌, ◌≤◌, sym, ap, ◌∙◌, subst}
+use Rattle.std.proofs.Common.{◌+◌, ◌-◌, ◌≤◌, sym, ap, ◌∙◌, subst}
 use Rattle.dates.specs.Lengths.{days_of_month, months_before, years_before}
 use Rattle.dates.proofs.Numbered.{date_is}
 use Rattle.dates.proofs.days.date_of.Goals as goal

@@ -1,5 +1,5 @@
-use Rattle.std.proofs.Common.{◌≡◌, ◌+◌, ◌-◌, sym, ap, ◌∙◌, arith}
-use Rattle.dates.specs.Lengths.{months_before, days_of_year}
+use Rattle.std.proofs.Common.{◌≡◌, ◌+◌, ◌-◌, ap, arith}
+use Rattle.dates.specs.Lengths.{months_before}
 use Rattle.dates.proofs.Sums.{months_more}
 use Rattle.dates.proofs.days.in_month.Goals as goal
 

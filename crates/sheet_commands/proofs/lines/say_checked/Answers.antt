@@ -1,9 +1,8 @@
-use Rattle.std.proofs.Common.{◌≡◌, ◌++◌, None, string_bytes, codes, decimal, sym, ap, ◌∙◌}
+use Rattle.std.proofs.Common.{◌++◌, None, codes, decimal, sym, ap, ◌∙◌}
 use Rattle.rules.specs.Reading.{read}
 use Rattle.rules.proofs.Refusing.{made_at, made_with}
 use Rattle.rules.proofs.Fitting.{Said, read_fits}
 use Rattle.kinds.specs.Formats.{rule_of}
-use Rattle.tables.specs.Numbers.{number}
 use Rattle.sheet_commands.specs.Lines.{rows_text, records_text}
 use Rattle.sheet_commands.proofs.lines.say_checked.Goals as goal
 

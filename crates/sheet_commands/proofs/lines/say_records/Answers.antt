@@ -1,4 +1,4 @@
-use Rattle.std.proofs.Common.{◌≡◌, ◌++◌, string_bytes, sym, ap, ◌∙◌}
+use Rattle.std.proofs.Common.{◌++◌, string_bytes, sym, ap, ◌∙◌}
 use Rattle.events.specs.Told.{record_of}
 use Rattle.sheet_commands.specs.Lines.{record_line, records_text}
 use Rattle.sheet_commands.proofs.Said.{piece}

@@ -1,4 +1,4 @@
-use Rattle.std.proofs.Common.{◌≡◌, ◌+◌, ◌-◌, ◌++◌, string_bytes, sym, ap, ◌∙◌, arith}
+use Rattle.std.proofs.Common.{◌+◌, ◌-◌, ◌++◌, string_bytes, sym, ap, ◌∙◌, arith}
 use Rattle.tables.specs.Numbers.{number}
 use Rattle.sheet_commands.specs.Lines.{row_line, rows_from, rows_text}
 use Rattle.sheet_commands.proofs.Said.{piece, row_next}

@@ -1,4 +1,4 @@
-use Rattle.std.proofs.Common.{◌≡◌, None, sym, ◌∙◌}
+use Rattle.std.proofs.Common.{None, sym, ◌∙◌}
 use Rattle.rules.specs.Reading.{read}
 use Rattle.rules.proofs.Refusing.{made_with}
 use Rattle.kinds.specs.Formats.{rule_of}

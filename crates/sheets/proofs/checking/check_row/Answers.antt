@@ -3,7 +3,6 @@ use Rattle.rules.specs.Results.{none_of}
 use Rattle.rules.specs.Sheets.{place_of}
 use Rattle.rules.specs.Reading.{bad_number}
 use Rattle.tables.specs.Numbers.{number}
-use Rattle.readers.specs.declared.refusal.SheetRefusal.{SheetRefusal}
 use Rattle.readers.specs.declared.refusal.SheetRefusal.TheVariants.{Table}
 use Rattle.sheets.specs.Judged.{ground_of}
 use Rattle.sheets.proofs.Steps.{row_here, row_on}

@@ -1,4 +1,4 @@
-use Rattle.std.proofs.Common.{◌≡◌, ◌∙◌, arith}
+use Rattle.std.proofs.Common.{◌∙◌, arith}
 use Rattle.rules.specs.Numbers.{at32}
 use Rattle.rules.specs.Sheets.{place_of}
 use Rattle.rules.specs.Reading.{table_at}

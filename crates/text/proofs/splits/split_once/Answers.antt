@@ -1,4 +1,4 @@
-use Rattle.std.proofs.Common.{◌≡◌, ◌+◌, ◌-◌, take, drop, Some, sym, ap, ◌∙◌, arith}
+use Rattle.std.proofs.Common.{◌≡◌, ◌+◌, ◌-◌, take, Some, sym, ◌∙◌, arith}
 use Rattle.std.proofs.lemmas.List.{take_rest, at_drop_all}
 use Rattle.text.specs.Splits.{with_front, split_at}
 use Rattle.text.proofs.Parted.{front_none, split_more, split_here}

@@ -1,4 +1,4 @@
-use Rattle.std.proofs.Common.{length, take, drop, sym, ap, ◌∙◌, arith}
+use Rattle.std.proofs.Common.{take, drop, ap, ◌∙◌, arith}
 use Rattle.text.specs.Words.{front_word, past_word}
 use Rattle.text.proofs.Pieces.{word-within, word-front, word_back}
 use Rattle.text.proofs.words.cut_word.Goals as goal

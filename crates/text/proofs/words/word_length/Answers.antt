@@ -1,5 +1,5 @@
-use Rattle.std.proofs.Common.{length, get_or, drop, sym, ap, ◌∙◌, arith}
-use Rattle.std.proofs.lemmas.List.{at_drop_more, at_drop_all}
+use Rattle.std.proofs.Common.{length, sym, arith}
+use Rattle.std.proofs.lemmas.List.{at_drop_all}
 use Rattle.text.specs.Words.{front_word}
 use Rattle.text.proofs.Pieces.{word_none, word_more}
 use Rattle.text.proofs.words.word_length.Goals as goal

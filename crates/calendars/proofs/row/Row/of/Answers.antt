@@ -1,4 +1,4 @@
-use Rattle.std.proofs.Common.{◌≡◌, ℕ, true, List, sym, ap, ◌∙◌}
+use Rattle.std.proofs.Common.{◌≡◌, ℕ, true, List, ap, ◌∙◌}
 use Rattle.places.specs.Ranks.{possible}
 use Rattle.places.specs.Values.{value_in}
 use Rattle.places.proofs.Order.{possible-from}

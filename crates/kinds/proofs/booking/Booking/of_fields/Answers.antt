@@ -1,4 +1,4 @@
-use Rattle.std.proofs.Common.{◌≡◌, sym, ap, ◌∙◌}
+use Rattle.std.proofs.Common.{sym, ap, ◌∙◌}
 use Rattle.kinds.specs.Bookings.{booking_from}
 use Rattle.kinds.specs.Booked.{from_ok}
 use Rattle.kinds.proofs.booking.Booking.of_fields.Goals as goal

@@ -1,4 +1,4 @@
-use Rattle.std.proofs.Common.{◌≡◌, ◌<◌, sym, ap, subst, arith}
+use Rattle.std.proofs.Common.{sym, ap, subst, arith}
 use Rattle.rules.specs.Results.{refused_as}
 use Rattle.kinds.specs.Refused.{unlawful_of}
 use Rattle.readers.specs.declared.reader.RecordPart.{RecordPart}

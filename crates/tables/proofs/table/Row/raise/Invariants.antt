@@ -1,4 +1,4 @@
-use Rattle.std.proofs.Common.{◌≡◌, ℕ, ◌<◌, ◌≤◌, max, length, get_or}
+use Rattle.std.proofs.Common.{◌≡◌, ℕ, ◌<◌, ◌≤◌, max, get_or}
 use Rattle.tables.proofs.table.Row.raise.Given as goal
 
 abbrev pub invariant-loop-u : goal.invariant-loop-u

@@ -1,4 +1,4 @@
-use Rattle.std.proofs.Common.{◌≡◌, ◌∙◌, arith}
+use Rattle.std.proofs.Common.{◌∙◌, arith}
 use Rattle.tables.specs.Numbers.{number, row_raised}
 use Rattle.tables.proofs.Cells.{raised-more, raised_all}
 use Rattle.tables.proofs.table.TimeTable.merge.Goals as goal

@@ -1,4 +1,4 @@
-use Rattle.std.proofs.Common.{◌≡◌, cond, eqb, ◌∙◌, arith}
+use Rattle.std.proofs.Common.{cond, eqb, ◌∙◌, arith}
 use Rattle.tables.specs.Numbers.{in_row, in_rows, larger}
 use Rattle.tables.proofs.Cells.{rows-set, row_is, at_row}
 use Rattle.tables.proofs.table.TimeTable.raise_row.Goals as goal

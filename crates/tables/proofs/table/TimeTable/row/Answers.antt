@@ -1,6 +1,6 @@
 use Rattle.std.proofs.Common.{◌≡◌, sym, ap, ◌∙◌, inl, inr, arith}
 use Rattle.tables.specs.Numbers.{in_rows}
-use Rattle.tables.proofs.Cells.{row_is, rows-past}
+use Rattle.tables.proofs.Cells.{rows-past}
 use Rattle.tables.proofs.table.TimeTable.row.Goals as goal
 
 pub returns-then-k-lt1 : goal.returns-then-k-lt1

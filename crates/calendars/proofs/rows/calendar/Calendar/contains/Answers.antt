@@ -1,4 +1,4 @@
-use Rattle.std.proofs.Common.{◌≡◌, drop, ◌∙◌}
+use Rattle.std.proofs.Common.{drop, ◌∙◌}
 use Rattle.places.specs.Ranks.{rank}
 use Rattle.calendars.specs.Rows.{site_of, number_of, leads}
 use Rattle.calendars.specs.Used.{in_use}

@@ -1,10 +1,10 @@
-use Rattle.std.proofs.Common.{◌≡◌, ◌+◌, ◌<◌, ◌≤◌, true, false, cond, length, drop, set, Ok, Err, sym, refl, ap, ◌∙◌, subst, true≢false, arith}
+use Rattle.std.proofs.Common.{◌≡◌, ◌+◌, ◌≤◌, true, cond, length, drop, set, Err, sym, refl, ap, ◌∙◌, subst, true≢false, arith}
 use Rattle.std.proofs.lemmas.List.{length-take-le, drop-set-lt}
 use Rattle.std.specs.List.{list_all}
 use Rattle.rules.specs.Refusals.{calendar_full}
 use Rattle.rules.specs.Entries.{room, join}
 use Rattle.rules.proofs.Stored.{room_passes, room-over}
-use Rattle.places.specs.Ranks.{ascends, rank}
+use Rattle.places.specs.Ranks.{rank}
 use Rattle.places.specs.Shifts.{shifted_in}
 use Rattle.places.proofs.Tests.{all_set, all_inserted}
 use Rattle.places.proofs.Shifted.{drop_in}

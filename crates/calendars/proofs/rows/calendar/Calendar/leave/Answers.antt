@@ -1,8 +1,8 @@
-use Rattle.std.proofs.Common.{◌≡◌, suc, ◌+◌, ◌≤◌, true, false, cond, length, take, drop, sym, refl, ap, ◌∙◌, subst, arith}
+use Rattle.std.proofs.Common.{◌≡◌, suc, ◌+◌, ◌≤◌, true, cond, length, take, drop, sym, refl, ap, ◌∙◌, subst, arith}
 use Rattle.std.proofs.lemmas.List.{length-take-le}
 use Rattle.std.specs.List.{list_all}
 use Rattle.rules.specs.Entries.{room}
-use Rattle.places.specs.Ranks.{ascends, rank}
+use Rattle.places.specs.Ranks.{rank}
 use Rattle.places.specs.Shifts.{shifted_out}
 use Rattle.places.proofs.Tests.{all_append, all_take, all_drop}
 use Rattle.places.proofs.Shifted.{drop_out}

@@ -1,4 +1,4 @@
-use Rattle.std.proofs.Common.{◌≡◌, ◌++◌, codes, sym, ap, ◌∙◌, subst}
+use Rattle.std.proofs.Common.{◌++◌, codes, sym, ap, ◌∙◌, subst}
 use Rattle.std.specs.Fmt.{HasWritten}
 use Rattle.kinds.specs.Notices.{notice_text}
 use Rattle.kinds.specs.Noticed.{letters_written}
