@@ -4,7 +4,7 @@ use Rattle.std.proofs.Common.{sym, ap, arith, lit<}
 use mathlib.Core.HLevel.{hedberg}
 use Rattle.std.proofs.Math.Bridge.{le_prop}
 use Rattle.std.proofs.Math.Decide.{dec_le, ℕ_discrete}
-use Rattle.std.specs.List.{AllByRecursion as All}
+use Rattle.std.specs.List.{AllByRecursion}
 use Rattle.rules.specs.Refusals.{Unlawful}
 use Rattle.rules.specs.Results.{refused_as}
 use Rattle.kinds.specs.declared.refusal.EntryRefusal.{EntryRefusal}
@@ -86,7 +86,7 @@ spell (x ∷ xs) = ap (λ ys. x ∷ ys) (spell xs)
 pub spell_at : (n : ℕ) (xs : List ℕ) → length xs ≡ n → xs ≡ table n (λ k. slice_index xs k)
 spell_at n xs e = rw (← e) (spell xs)
 
-pub below_all : (xs : List ℕ) → All (λ x. x < 256) xs → (i : ℕ) → slice_index xs i < 256
+pub below_all : (xs : List ℕ) → AllByRecursion (λ x. x < 256) xs → (i : ℕ) → slice_index xs i < 256
 below_all [] h i = lit< tt
 below_all (x ∷ xs) h zero = h.0
 below_all (x ∷ xs) h (suc i) = below_all xs h.1 i
