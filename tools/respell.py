@@ -18,8 +18,8 @@ os.chdir(top)
 TOKEN = r"[^\s(){}\[\].;,λ«»`\"@]+"
 SIGNATURE = re.compile(r"^(?P<indent>\s*)(?P<words>(?:(?:abbrev|unfoldable|pub|record|data)\s+)*)(?P<name>" + TOKEN + r")(?=\s)(?P<rest>.*)$")
 BOUND = re.compile(r"[({]((?:[\w'-]+ )+):|\blet ([\w'-]+)|λ ((?:[\w'-]+ ?)+)\.")
-# names of the library that lemmas join to ours by a dash
-JOINED = set("append map filter length take drop insert remove set cons nil min max lookup slice_index get_or between replicate".split())
+# operations that lemmas join to a name by a dash
+JOINED = set("chain be32 table_bytes append map filter length take drop insert remove set cons nil min max lookup slice_index get_or between replicate".split())
 # names that would otherwise fall together with another name
 BY_HAND = {
     "date-of": "date_of_day",
@@ -94,11 +94,11 @@ def snake(name):
 
 
 def lemma(name, known):
-    """A dash stays where it joins two names, and becomes an underscore before or after a plain word."""
+    """A dash stays where it joins a name of ours to an operation, and becomes an underscore before or after a plain word."""
     words = name.split("-")
     for j in range(1, len(words)):
         left, right = "_".join(words[:j]), "_".join(words[j:])
-        if left in known and right in known:
+        if left in known and right in JOINED:
             return left + "-" + right
     return snake(name)
 
@@ -112,6 +112,10 @@ def renamings():
             if re.match(r"(returns|loop|invariant|decreases)-", name):
                 continue
             found.setdefault(name, []).append((words, kind, p))
+        for m in BOUND.finditer(text(p)):
+            for name in (m[1] or m[2] or m[3]).split():
+                if "-" in name:
+                    bound.setdefault(name, p)
     facts = {n for n, v in found.items() for w, k, _ in v if is_fact(k)}
     known = {snake(n) for n, v in found.items() if n not in facts and any("abbrev" in w or "unfoldable" in w for w, _, _ in v)} | JOINED
     turned = {}

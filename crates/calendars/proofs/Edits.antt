@@ -6,7 +6,7 @@ use Rattle.std.proofs.lemmas.Bool.Decides.{nat_tests}
 use Rattle.rules.specs.Stamps.{Stamped, below, same, insert}
 use Rattle.rules.specs.Entries.{join, leave, holds}
 use Rattle.places.specs.Ranks.{ascends, rank}
-use Rattle.places.proofs.Tests.{by_test, and_left, and_right, all_weaker, kept-all}
+use Rattle.places.proofs.Tests.{by_test, and_left, and_right, all_weaker, kept_all}
 use Rattle.places.proofs.Order.{below_trans}
 use Rattle.calendars.specs.Rows.{leads}
 
@@ -27,16 +27,16 @@ like u n v m w k p q = grind (arith, nat_tests)
 
 module _ {X : Type 0} (s n : X → ℕ) where
   -- the element at a place leads what is left from there
-  pub leads-at : (u m : ℕ) (xs : List X) (i : ℕ) (d : X) → i < length xs → leads s n u m (drop i xs) ≡ same u m (s (get_or xs i d)) (n (get_or xs i d))
-  leads-at u m [] i d l = absurd (omega arith)
-  leads-at u m (x ∷ xs) zero d l = refl
-  leads-at u m (x ∷ xs) (suc i) d l = leads-at u m xs i d (omega arith)
+  pub leads_at : (u m : ℕ) (xs : List X) (i : ℕ) (d : X) → i < length xs → leads s n u m (drop i xs) ≡ same u m (s (get_or xs i d)) (n (get_or xs i d))
+  leads_at u m [] i d l = absurd (omega arith)
+  leads_at u m (x ∷ xs) zero d l = refl
+  leads_at u m (x ∷ xs) (suc i) d l = leads_at u m xs i d (omega arith)
 
-  pub leads-past : (u m : ℕ) (xs : List X) (i : ℕ) → length xs ≤ i → leads s n u m (drop i xs) ≡ false
-  leads-past u m [] zero l = refl
-  leads-past u m [] (suc i) l = refl
-  leads-past u m (x ∷ xs) zero l = absurd (omega arith)
-  leads-past u m (x ∷ xs) (suc i) l = leads-past u m xs i (omega arith)
+  pub leads_past : (u m : ℕ) (xs : List X) (i : ℕ) → length xs ≤ i → leads s n u m (drop i xs) ≡ false
+  leads_past u m [] zero l = refl
+  leads_past u m [] (suc i) l = refl
+  leads_past u m (x ∷ xs) zero l = absurd (omega arith)
+  leads_past u m (x ∷ xs) (suc i) l = leads_past u m xs i (omega arith)
 
   pub leads_in : (u m : ℕ) (xs : List X) (i : ℕ) → leads s n u m (drop i xs) ≡ true → i < length xs
   leads_in u m [] zero h = absurd (true≢false (sym h))
@@ -56,7 +56,7 @@ module _ {A : Type 0} where
   beyond u m zs = list_all (λ z. below u m z.0 z.1) zs
 
   none : (u m : ℕ) (zs : List (Stamped A)) → beyond u m zs ≡ true → leave u m zs ≡ zs
-  none u m zs h = kept-all (λ z. not (same u m z.0 z.1)) zs
+  none u m zs h = kept_all (λ z. not (same u m z.0 z.1)) zs
       (all_weaker (λ z. below u m z.0 z.1) (λ z. not (same u m z.0 z.1)) zs (λ z b. ap not (apart_up u m z.0 z.1 b)) h)
 
   front : (x : Stamped A) (zs : List (Stamped A)) → beyond x.0 x.1 zs ≡ true → insert x zs ≡ x ∷ zs
@@ -83,12 +83,12 @@ module _ {A : Type 0} where
     past_above t = all_weaker (λ w. below z.0 z.1 w.0 w.1) (λ w. below u m w.0 w.1) zs (λ w b. below_trans u m z.0 z.1 w.0 w.1 t b) over
 
   -- where the place of x holds its stamp, x is written over it
-  pub join-over : (x : Stamped A) (zs : List (Stamped A)) → ascends st nm zs ≡ true → leads st nm x.0 x.1 (drop (rank st nm x.0 x.1 zs) zs) ≡ true
+  pub join_over : (x : Stamped A) (zs : List (Stamped A)) → ascends st nm zs ≡ true → leads st nm x.0 x.1 (drop (rank st nm x.0 x.1 zs) zs) ≡ true
       → set zs (rank st nm x.0 x.1 zs) x ≡ join x zs
-  join-over x [] asc = λ h. absurd (true≢false (sym h))
-  join-over x (z ∷ zs) asc =
+  join_over x [] asc = λ h. absurd (true≢false (sym h))
+  join_over x (z ∷ zs) asc =
       by_test (below z.0 z.1 x.0 x.1)
-      (λ t. rw (t, apart x.0 x.1 z.0 z.1 t, not_back x.0 x.1 z.0 z.1 t) (λ h. ap (λ ws. z ∷ ws) (join-over x zs (rest x.0 x.1 z zs asc) h)))
+      (λ t. rw (t, apart x.0 x.1 z.0 z.1 t, not_back x.0 x.1 z.0 z.1 t) (λ h. ap (λ ws. z ∷ ws) (join_over x zs (rest x.0 x.1 z zs asc) h)))
       (λ f. by_test (same x.0 x.1 z.0 z.1)
       (λ t.
       let b = past_same x.0 x.1 z zs asc t in
@@ -109,12 +109,12 @@ module _ {A : Type 0} where
       rw (f, g, o) (λ h. ap (λ ws. x ∷ (z ∷ ws)) (sym (none x.0 x.1 zs (past_above x.0 x.1 z zs asc o))))))
 
   -- where the place of u.m holds it, it is taken out there
-  pub leave-at : (u m : ℕ) (zs : List (Stamped A)) → ascends st nm zs ≡ true → leads st nm u m (drop (rank st nm u m zs) zs) ≡ true
+  pub leave_at : (u m : ℕ) (zs : List (Stamped A)) → ascends st nm zs ≡ true → leads st nm u m (drop (rank st nm u m zs) zs) ≡ true
       → remove zs (rank st nm u m zs) ≡ leave u m zs
-  leave-at u m [] asc = λ h. refl
-  leave-at u m (z ∷ zs) asc =
+  leave_at u m [] asc = λ h. refl
+  leave_at u m (z ∷ zs) asc =
       by_test (below z.0 z.1 u m)
-      (λ t. rw (t, apart u m z.0 z.1 t) (λ h. ap (λ ws. z ∷ ws) (leave-at u m zs (rest u m z zs asc) h)))
+      (λ t. rw (t, apart u m z.0 z.1 t) (λ h. ap (λ ws. z ∷ ws) (leave_at u m zs (rest u m z zs asc) h)))
       (λ f. by_test (same u m z.0 z.1)
       (λ t. rw (f, t) (λ h. sym (none u m zs (past_same u m z zs asc t))))
       (λ g. rw (f, g) (λ h. absurd (true≢false (sym h)))))

@@ -7,7 +7,7 @@ use Rattle.std.proofs.lemmas.List.{length-take-le, length-map}
 use Rattle.rules.specs.Entries.{room}
 use Rattle.kinds.specs.Formats.{Format}
 use Rattle.places.specs.Ranks.{possible, ascends}
-use Rattle.places.proofs.Order.{ascending_told, all-possible}
+use Rattle.places.proofs.Order.{ascending_told, all_possible}
 use Rattle.places.proofs.Mapped.{all_map, ascends-map}
 use Rattle.calendars.specs.declared.row.Row.{Row}
 use Rattle.calendars.specs.declared.rows.calendar.Calendar.{Calendar}
@@ -20,7 +20,7 @@ pub lawful_entries : {V : Type 0} (f : Format V) (rs : List Row) (M : ℕ) → l
 lawful_entries f rs M fine asc within few =
     record {
       ascending = ascending_told (entries_in f rs) (sym (ascends-map (entry_in f) (λ x. x.0) (λ x. x.1) rs) ∙ asc);
-      possible = all-possible (entries_in f rs) (sym (all_map (entry_in f) (λ x. possible x.0 x.1) rs) ∙ fine);
+      possible = all_possible (entries_in f rs) (sym (all_map (entry_in f) (λ x. possible x.0 x.1) rs) ∙ fine);
       within = let e = length-map rs (entry_in f) in omega arith;
       bound = omega arith;
     }

@@ -4,7 +4,7 @@ use Rattle.std.proofs.lemmas.Bool.Decides.{nat_tests}
 use Rattle.dates.specs.declared.date.Date.{Date}
 use Rattle.dates.specs.Lengths.{days_of_month, months_before, days_of_year, years_before}
 use Rattle.dates.specs.Days.{date, next_date, date_of_day, known, past, number}
-use Rattle.dates.proofs.Sums.{by_test, total-below, one_place, months_more, years_more}
+use Rattle.dates.proofs.Sums.{by_test, total_below, one_place, months_more, years_more}
 
 -- the year is not before 2000, and has the month and the day
 pub record Good (t : Date) : Type 0 where
@@ -83,7 +83,7 @@ pub within_year : (t : Date) → Good t → past t < days_of_year t.year
 within_year t g =
     let k = g.month in
     let s : t.month - 1 + 1 ≡ t.month = omega arith in
-    let b = total-below (λ j. days_of_month t.year (j + 1)) (t.month - 1) 12 (omega arith) in
+    let b = total_below (λ j. days_of_month t.year (j + 1)) (t.month - 1) 12 (omega arith) in
     let c = ap (days_of_month t.year) s in
     less (months_before t.year (t.month - 1)) (days_of_month t.year (t.month - 1 + 1)) (days_of_month t.year t.month) t.day (days_of_year t.year) b c g.day
   where
@@ -161,7 +161,7 @@ pub known_small : (t : Date) → Known t → number t ≤ 36524
 known_small t k =
     let y : 2000 + (t.year - 2000) ≡ t.year = omega (arith, k.good.year) in
     let p = within_year t k.good in
-    let q = total-below (λ j. days_of_year (2000 + j)) (t.year - 2000) 100 (omega (arith, k.most)) in
+    let q = total_below (λ j. days_of_year (2000 + j)) (t.year - 2000) 100 (omega (arith, k.most)) in
     let w : years_before 100 ≡ 36525 = refl in
     less (years_before (t.year - 2000)) (days_of_year (2000 + (t.year - 2000))) (days_of_year t.year) (past t) (years_before 100) q (ap days_of_year y) p w
   where
@@ -176,7 +176,7 @@ small_known n h =
       most =
           by_test (ltb 2099 (date_of_day n).year) (λ _. (date_of_day n).year ≤ 2099)
           (λ l.
-          let p = total-below (λ j. days_of_year (2000 + j)) 99 ((date_of_day n).year - 2000) (omega (arith, ltb-true _ _ l)) in
+          let p = total_below (λ j. days_of_year (2000 + j)) 99 ((date_of_day n).year - 2000) (omega (arith, ltb-true _ _ l)) in
           let w : years_before 99 + days_of_year 2099 ≡ 36525 = refl in
           absurd (more (years_before 99 + days_of_year 2099) (years_before ((date_of_day n).year - 2000)) (past (date_of_day n)) n p k.1 w h))
           (λ l. ltb-false _ _ l);

@@ -32,16 +32,16 @@ from_ok v =
       le_yes v.crew 99 v.crew_ok,
     )
 
-from-same : (l l' f f' t t' : ℕ) (w w' : Option Work) (c c' : ℕ) → l ≡ l' → f ≡ f' → t ≡ t' → w ≡ w' → c ≡ c' →
+from_same : (l l' f f' t t' : ℕ) (w w' : Option Work) (c c' : ℕ) → l ≡ l' → f ≡ f' → t ≡ t' → w ≡ w' → c ≡ c' →
     booking_from l f t w c ≡ booking_from l' f' t' w' c'
-from-same l l' f f' t t' w w' c c' p q r s u = λ i. booking_from (p i) (q i) (r i) (s i) (u i)
+from_same l l' f f' t t' w w' c c' p q r s u = λ i. booking_from (p i) (q i) (r i) (s i) (u i)
 
 pub of_from : (bs : List ℕ) → length bs ≡ 8 → booking_of bs ≡ booking_from (at16 bs 0) (at16 bs 2) (at16 bs 4) (work_of (slice_index bs 6)) (slice_index bs 7)
 of_from bs e = rw (eq_yes (length bs) 8 e)
 
 -- two bookings with the same fields are one
 pub same_fields : (v u : Booking) → v.line ≡ u.line → v.first ≡ u.first → v.last ≡ u.last → v.work ≡ u.work → v.crew ≡ u.crew → v ≡ u
-same_fields v u l f t w c = ok_same v u (sym (from_ok v) ∙ from-same _ _ _ _ _ _ _ _ _ _ l f t (ap (λ x. Some x) w) c ∙ from_ok u)
+same_fields v u l f t w c = ok_same v u (sym (from_ok v) ∙ from_same _ _ _ _ _ _ _ _ _ _ l f t (ap (λ x. Some x) w) c ∙ from_ok u)
 
 -- what a booking that was made has for fields
 from_back : (l f t : ℕ) (w : Option Work) (c : ℕ) (v : Booking) → booking_from l f t w c ≡ Ok v →
@@ -85,10 +85,10 @@ work_back (suc (suc zero)) w e = some_same Trial w e
 work_back (suc (suc (suc zero))) w e = some_same Freeze w e
 work_back (suc (suc (suc (suc n)))) w e = none_some w e
 
-booking-there : (v : Booking) → booking_of (booking_bytes v) ≡ Ok v
-booking-there v =
+booking_there : (v : Booking) → booking_of (booking_bytes v) ≡ Ok v
+booking_there v =
     of_from (booking_bytes v) refl
-    ∙ from-same _ _ _ _ _ _ _ _ _ _ (omega arith) (omega arith) (omega arith) (work_there v.work) refl
+    ∙ from_same _ _ _ _ _ _ _ _ _ _ (omega arith) (omega arith) (omega arith) (work_there v.work) refl
     ∙ from_ok v
 
 booking_small : (v : Booking) (i : ℕ) → slice_index (booking_bytes v) i < 256
@@ -117,14 +117,14 @@ booking_near bs n =
     tt
     )
 
-pub bookings-lawful : LawfulKind (rule_of bookings)
-bookings-lawful =
+pub bookings_lawful : LawfulKind (rule_of bookings)
+bookings_lawful =
     record {
       code_byte = omega arith;
       width_range = omega arith;
       long = λ v. refl;
       bytes = booking_small;
-      there = λ v. ap (refused_as unlawful_of) (booking-there v);
+      there = λ v. ap (refused_as unlawful_of) (booking_there v);
       back = λ bs v h e. booking_back bs v h (ok_back (booking_of bs) v e);
       short = λ bs e. ap (refused_as unlawful_of) (choose_no (ℕ_discrete (length bs) 8) _ _ e);
       near = λ bs x n e. near_err 8 (booking_of bs) x (booking_near bs n) e;

@@ -41,9 +41,9 @@ choose_both Q (yes p) n y a b = b p
 choose_both Q (no e) n y a b = a
 
 -- the same, where the refused choice may lean on the refusal
-pub choose-by : {P X : Type 0} (Q : X → Type 0) (d : Dec P) (n : X) (y : P → X) → ((P → ⊥) → Q n) → ((p : P) → Q (y p)) → Q (choose d n y)
-choose-by Q (yes p) n y a b = b p
-choose-by Q (no e) n y a b = a e
+pub choose_by : {P X : Type 0} (Q : X → Type 0) (d : Dec P) (n : X) (y : P → X) → ((P → ⊥) → Q n) → ((p : P) → Q (y p)) → Q (choose d n y)
+choose_by Q (yes p) n y a b = b p
+choose_by Q (no e) n y a b = a e
 
 pub pick_both : {A X : Type 0} (Q : X → Type 0) (o : Option A) (n : X) (y : A → X) → Q n → ((a : A) → Q (y a)) → Q (pick o n y)
 pick_both Q (Some x) n y a b = b x

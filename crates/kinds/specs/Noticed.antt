@@ -21,11 +21,11 @@ use Rattle.kinds.specs.Choice.{choose}
 use Rattle.kinds.specs.Formats.{rule_of}
 use Rattle.kinds.specs.Refused.{unlawful_of}
 use Rattle.kinds.specs.Notices.{notice_bytes, notice_of, line_out_from, word_from, notices}
-use Rattle.kinds.specs.Decide.{le_yes, eq_yes, spell_at, below_all, choose_no, choose_inv, clash, ok_same, ok_back, choose_both, choose-by, Near, near_err}
+use Rattle.kinds.specs.Decide.{le_yes, eq_yes, spell_at, below_all, choose_no, choose_inv, clash, ok_same, ok_back, choose_both, choose_by, Near, near_err}
 use Rattle.kinds.specs.Booked.{be16_of}
 
-pub front-more : (xs : List ℕ) (i : ℕ) → i < length xs → 65 ≤ slice_index xs i → slice_index xs i ≤ 90 → front (drop i xs) ≡ front (drop (i + 1) xs) + 1
-front-more xs i h a b = let e = at_drop_more front xs i 0 h in grind (arith, nat_tests)
+pub front_more : (xs : List ℕ) (i : ℕ) → i < length xs → 65 ≤ slice_index xs i → slice_index xs i ≤ 90 → front (drop i xs) ≡ front (drop (i + 1) xs) + 1
+front_more xs i h a b = let e = at_drop_more front xs i 0 h in grind (arith, nat_tests)
 
 pub front_stop : (xs : List ℕ) (i : ℕ) → i < length xs → (65 ≤ slice_index xs i → slice_index xs i ≤ 90 → ⊥) → front (drop i xs) ≡ 0
 front_stop xs i h a = let e = at_drop_more front xs i 0 h in grind (arith, nat_tests)
@@ -137,7 +137,7 @@ word_near : (a b c d : ℕ) → Near 5 (word_from a b c d)
 word_near a b c d =
     let n = front (a ∷ b ∷ c ∷ d ∷ []) in
     let h = front_le (a ∷ b ∷ c ∷ d ∷ []) in
-    choose-by (Near 5) (ℕ_discrete n 4) _ _ (λ e. below n h e) λ _. tt
+    choose_by (Near 5) (ℕ_discrete n 4) _ _ (λ e. below n h e) λ _. tt
   where
     below : (n : ℕ) → n ≤ 4 → (n ≢ 4) → n + 1 < 5
     below n h e = omega arith
@@ -156,8 +156,8 @@ notice_near bs n =
     rw (of_other bs n t)
     (choose_both (Near 5) (ℕ_discrete (slice_index bs 0) 3) _ _ (omega arith) λ _. word_near (slice_index bs 1) (slice_index bs 2) (slice_index bs 3) (slice_index bs 4)))
 
-pub notices-lawful : LawfulKind (rule_of notices)
-notices-lawful =
+pub notices_lawful : LawfulKind (rule_of notices)
+notices_lawful =
     record {
       code_byte = omega arith;
       width_range = omega arith;

@@ -16,10 +16,10 @@ pub and_right : (a b : Bool) → (a && b) ≡ true → b ≡ true
 and_right a b h = (and_parts a b h).1
 
 module _ {X : Type 0} where
-  pub all-at : (p : X → Bool) (xs : List X) (i : ℕ) (d : X) → list_all p xs ≡ true → i < length xs → p (get_or xs i d) ≡ true
-  all-at p [] i d h l = absurd (omega arith)
-  all-at p (x ∷ xs) zero d h l = and_left (p x) (list_all p xs) h
-  all-at p (x ∷ xs) (suc i) d h l = all-at p xs i d (and_right (p x) (list_all p xs) h) (omega arith)
+  pub all_at : (p : X → Bool) (xs : List X) (i : ℕ) (d : X) → list_all p xs ≡ true → i < length xs → p (get_or xs i d) ≡ true
+  all_at p [] i d h l = absurd (omega arith)
+  all_at p (x ∷ xs) zero d h l = and_left (p x) (list_all p xs) h
+  all_at p (x ∷ xs) (suc i) d h l = all_at p xs i d (and_right (p x) (list_all p xs) h) (omega arith)
 
   pub all_weaker : (p q : X → Bool) (xs : List X) → ((x : X) → p x ≡ true → q x ≡ true) → list_all p xs ≡ true → list_all q xs ≡ true
   all_weaker p q [] w h = refl
@@ -53,9 +53,9 @@ module _ {X : Type 0} where
   all_set p (y ∷ ys) zero x h k = and_from (p x) (list_all p ys) h (and_right (p y) (list_all p ys) k)
   all_set p (y ∷ ys) (suc i) x h k = and_from (p y) (list_all p (set ys i x)) (and_left (p y) (list_all p ys) k) (all_set p ys i x h (and_right (p y) (list_all p ys) k))
 
-  pub kept-all : (p : X → Bool) (xs : List X) → list_all p xs ≡ true → filter p xs ≡ xs
-  kept-all p [] h = refl
-  kept-all p (x ∷ xs) h = rw (and_left (p x) (list_all p xs) h, kept-all p xs (and_right (p x) (list_all p xs) h)) refl
+  pub kept_all : (p : X → Bool) (xs : List X) → list_all p xs ≡ true → filter p xs ≡ xs
+  kept_all p [] h = refl
+  kept_all p (x ∷ xs) h = rw (and_left (p x) (list_all p xs) h, kept_all p xs (and_right (p x) (list_all p xs) h)) refl
 
   pub kept_none : (p : X → Bool) (xs : List X) → list_all (λ x. not (p x)) xs ≡ true → filter p xs ≡ []
   kept_none p [] h = refl

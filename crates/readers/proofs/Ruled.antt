@@ -5,7 +5,7 @@ use Rattle.rules.specs.Refusals.{bad_record, bad_entry_at}
 use Rattle.rules.specs.Numbers.{at32}
 use Rattle.rules.specs.Stamps.{within}
 use Rattle.rules.specs.Records.{Body, booked, struck}
-use Rattle.rules.specs.Reading.{Part, entry_part, stamp-part, cut, part_at, body_of, record_at}
+use Rattle.rules.specs.Reading.{Part, entry_part, stamp_part, cut, part_at, body_of, record_at}
 use Rattle.kinds.specs.declared.refusal.EntryRefusal.{EntryRefusal}
 use Rattle.kinds.specs.Formats.{Format, rule_of}
 use Rattle.kinds.specs.Refused.{unlawful_of}
@@ -37,7 +37,7 @@ part_ruled : (width : ℕ) (bs : List ℕ) (at : ℕ) → refused_as refusal_of 
 part_ruled width bs at =
     test_as refusal_of (ltb at (length bs)) (EndsEarly (length bs)) _ _
     (cond_as refusal_of (eqb (get_or bs at 0) 1) _ _ _ _ (cut_ruled bs entry_part (at + 1) width)
-    (cond_as refusal_of (eqb (get_or bs at 0) 2) _ _ _ _ (cut_ruled bs stamp-part (at + 1) 5) refl))
+    (cond_as refusal_of (eqb (get_or bs at 0) 2) _ _ _ _ (cut_ruled bs stamp_part (at + 1) 5) refl))
 
 module _ {E : Type 0} (f : Format E) (N : ℕ) (known : ℕ → ℕ) where
   entry_ruled : (at : ℕ) (d : Result E EntryRefusal) →
@@ -48,7 +48,7 @@ module _ {E : Type 0} (f : Format E) (N : ℕ) (known : ℕ → ℕ) where
 
   body_ruled : (p : Part) → refused_as refusal_of (body_judged f N known p) ≡ body_of (rule_of f) N known p
   body_ruled (entry_part xs at) = entry_ruled at (f.decoded xs)
-  body_ruled (stamp-part xs at) =
+  body_ruled (stamp_part xs at) =
       tests (within N (get_or xs 0 0)) (leb 1 (at32 xs 1) && leb (at32 xs 1) (known (get_or xs 0 0))) (get_or xs 0 0, at32 xs 1)
     where
       tests : (a b : Bool) (s : ℕ × ℕ) →

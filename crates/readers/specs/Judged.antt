@@ -6,7 +6,7 @@ use Rattle.rules.specs.Numbers.{at32}
 use Rattle.rules.specs.Stamps as stamps
 use Rattle.rules.specs.Stamps.{within}
 use Rattle.rules.specs.Records.{Body, booked, struck}
-use Rattle.rules.specs.Reading.{Part, entry_part, stamp-part}
+use Rattle.rules.specs.Reading.{Part, entry_part, stamp_part}
 use Rattle.kinds.specs.Formats.{Format}
 use Rattle.kinds.specs.Refused.{unlawful_of}
 use Rattle.readers.specs.declared.refusal.RecordByte.TheVariants.{First, StruckSite, StruckNumber}
@@ -24,7 +24,7 @@ abbrev pub part_judged : ℕ → List ℕ → ℕ → Result (Part × ℕ) Sheet
 part_judged width bs at = do
   _ ← require (nat_lt at (length bs)) (EndsEarly (length bs))
   cond (slice_index bs at == 1) (cut_judged bs entry_part (at + 1) width)
-      (cond (slice_index bs at == 2) (cut_judged bs stamp-part (at + 1) 5) (Err (Record at First)))
+      (cond (slice_index bs at == 2) (cut_judged bs stamp_part (at + 1) 5) (Err (Record at First)))
 
 -- in a group of N, from a writer that knows so many events of each site: the stamp in five bytes at a place
 abbrev pub struck_judged : (N : ℕ) (known : ℕ → ℕ) → List ℕ → ℕ → Result stamps.Stamp SheetRefusal
@@ -39,7 +39,7 @@ module _ {E : Type 0} (f : Format E) (N : ℕ) (known : ℕ → ℕ) where
   body_judged (entry_part xs at) = do
     e ← refused_as (λ x. Entry (at + (unlawful_of x).place) x) (f.decoded xs)
     Ok (booked e)
-  body_judged (stamp-part xs at) = do
+  body_judged (stamp_part xs at) = do
     s ← struck_judged N known xs at
     Ok (struck s.0 s.1)
 

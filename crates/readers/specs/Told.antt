@@ -3,7 +3,7 @@
 use Rattle.std.specs.Prelude.{◌≡◌, ℕ, ◌+◌, ◌^◌, ◌<◌, length, Ok, Err, Result}
 use Rattle.rules.specs.Stamps as stamps
 use Rattle.rules.specs.Records as records
-use Rattle.rules.specs.Reading.{entry_part, stamp-part}
+use Rattle.rules.specs.Reading.{entry_part, stamp_part}
 use Rattle.rules.specs.Reading as reading
 use Rattle.events.specs.declared.stamp.Stamp.{Stamp}
 use Rattle.events.specs.declared.record.Body.{Body}
@@ -15,7 +15,7 @@ use Rattle.readers.specs.declared.refusal.SheetRefusal.{SheetRefusal}
 -- a record as a part of the sheet
 abbrev pub part_of : RecordPart → reading.Part
 part_of (Booked p) = entry_part p.bytes.now p.place
-part_of (Struck p) = stamp-part p.bytes.now p.place
+part_of (Struck p) = stamp_part p.bytes.now p.place
 
 -- a part, and the place behind it
 abbrev pub parted : Result RecordPart SheetRefusal → ℕ → Result (reading.Part × ℕ) SheetRefusal
@@ -25,7 +25,7 @@ parted (Err x) end = Err x
 -- an entry's part has the width of an entry, a stamp's part five bytes, and both end at a place that can be counted to
 abbrev pub Sized : ℕ → reading.Part → Type 0
 Sized width (entry_part xs at) = (length xs ≡ width) × (at + width < 2 ^ 64)
-Sized width (stamp-part xs at) = (length xs ≡ 5) × (at + 5 < 2 ^ 64)
+Sized width (stamp_part xs at) = (length xs ≡ 5) × (at + 5 < 2 ^ 64)
 
 abbrev pub stamp_shown : Result Stamp SheetRefusal → Result stamps.Stamp SheetRefusal
 stamp_shown (Ok s) = Ok (stamp_of s)

@@ -17,7 +17,7 @@ use Rattle.rules.specs.Fits.{Fit, Reaches}
 use Rattle.rules.proofs.Refusing.{passes, then_ok}
 use Rattle.rules.proofs.Searching.{first_none}
 use Rattle.rules.proofs.Sequences.{run_in}
-use Rattle.rules.proofs.Tables.{within_true, inside, rows_long, table-reads, same-table_bytes}
+use Rattle.rules.proofs.Tables.{within_true, inside, rows_long, table_reads, same-table_bytes}
 use Rattle.rules.proofs.Bodies.{Known, AllKnown, records_all}
 
 head_reads : (N k i code : ℕ) (t : List ℕ) → Within N k → (i ≡ k → ⊥) → head_read N i code (1 ∷ N ∷ k ∷ i ∷ code ∷ t) ≡ Ok k
@@ -74,22 +74,22 @@ module _
       (ap (λ ss. records_at K N (S k) bs ss (front_length N)) (sym F.stamped) ∙ a)
       (passes (eqb (length bs) (length bs)) (bytes_behind (length bs)) _ _ (eq-eqb (length bs) (length bs) refl) refl)
 
-  pub fit-read : read K N i own (written K N p.writer i p.table p.records) ≡ Ok p
-  fit-read =
+  pub fit_read : read K N i own (written K N p.writer i p.table p.records) ≡ Ok p
+  fit_read =
       let k = p.writer in
       let S = p.table in
       let bs = written K N k i S p.records in
       then_ok (head_read N i K.code bs) k _ _ (head_reads N k i K.code _ F.writer F.other)
       (then_ok (table_read N k bs) S _ _
-      (table-reads N k S 1 N k i K.code (flat_map (record_bytes K) p.records) F.writer F.tops F.owned F.small
+      (table_reads N k S 1 N k i K.code (flat_map (record_bytes K) p.records) F.writer F.tops F.owned F.small
       ∙ ap Ok F.outside)
       (then_ok (own_checked N i S own) tt _ _ (own_passes N i S own F.reached)
       (then_ok (records_read K N k i S bs) p.records _ _ all_read
       (ap (λ a. Ok (record { writer = k; addressee = a; table = S; records = p.records })) (sym F.addressee)))))
 
 -- a sheet of the restricted table is one of the table
-pub restricted-written : {E : Type 0} (K : Kind E) (N k i : ℕ) (T : ℕ → ℕ → ℕ) (rs : List (ℕ × ℕ × Body E)) →
+pub restricted_written : {E : Type 0} (K : Kind E) (N k i : ℕ) (T : ℕ → ℕ → ℕ) (rs : List (ℕ × ℕ × Body E)) →
     written K N k i T rs ≡ written K N k i (restricted N T) rs
-restricted-written K N k i T rs =
+restricted_written K N k i T rs =
     ap (λ tb. 1 ∷ N ∷ k ∷ i ∷ K.code ∷ (tb ++ flat_map (record_bytes K) rs))
     (same-table_bytes N T (restricted N T) (λ r u hr hu. sym (inside N T r u hr hu)))

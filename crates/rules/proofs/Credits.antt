@@ -7,8 +7,8 @@ use Rattle.rules.specs.Tables.{Table, Credited, credits_all, least_credited, rai
 use Rattle.rules.proofs.Count.{split}
 
 -- a raised number
-pub raised-there : (T : ℕ → ℕ → ℕ) (i v : ℕ) → raised T i i v i i ≡ v
-raised-there T i v =
+pub raised_there : (T : ℕ → ℕ → ℕ) (i v : ℕ) → raised T i i v i i ≡ v
+raised_there T i v =
     cond-true (eqb i i) (cond (eqb i i) v (T i i)) (T i i) (eq-eqb i i refl)
     ∙ cond-true (eqb i i) v (T i i) (eq-eqb i i refl)
 
@@ -37,18 +37,18 @@ credits_from (suc N) T u n c =
     (credits_from N T u n (λ k w. c k (omega arith)))
 
 -- the smallest number of a column
-pub least-all : (N : ℕ) (T : Table) (u n : ℕ) → n ≤ least_credited N T u → Credited N T u n
-least-all zero T u n l k w = absurd (omega arith)
-least-all (suc zero) T u n l k w = let e : k ≡ 1 = omega arith in subst (λ (a : ℕ). n ≤ T a u) (sym e) l
-least-all (suc (suc m)) T u n l k w =
+pub least_all : (N : ℕ) (T : Table) (u n : ℕ) → n ≤ least_credited N T u → Credited N T u n
+least_all zero T u n l k w = absurd (omega arith)
+least_all (suc zero) T u n l k w = let e : k ≡ 1 = omega arith in subst (λ (a : ℕ). n ≤ T a u) (sym e) l
+least_all (suc (suc m)) T u n l k w =
     elim (ℕ_discrete k (suc (suc m))) [
       | yes e ↦ subst (λ (a : ℕ). n ≤ T a u) (sym e) (omega arith)
-      | no d ↦ least-all (suc m) T u n (omega arith) k (w.0, omega arith)
+      | no d ↦ least_all (suc m) T u n (omega arith) k (w.0, omega arith)
     ]
 
-pub all-least : (N : ℕ) (T : Table) (u n : ℕ) → 1 ≤ N → Credited N T u n → n ≤ least_credited N T u
-all-least zero T u n one c = absurd (omega arith)
-all-least (suc zero) T u n one c = c 1 (omega arith)
-all-least (suc (suc m)) T u n one c =
+pub all_least : (N : ℕ) (T : Table) (u n : ℕ) → 1 ≤ N → Credited N T u n → n ≤ least_credited N T u
+all_least zero T u n one c = absurd (omega arith)
+all_least (suc zero) T u n one c = c 1 (omega arith)
+all_least (suc (suc m)) T u n one c =
     let a = c (suc (suc m)) (omega arith) in
-    let b = all-least (suc m) T u n (omega arith) (λ k w. c k (w.0, omega arith)) in omega arith
+    let b = all_least (suc m) T u n (omega arith) (λ k w. c k (w.0, omega arith)) in omega arith

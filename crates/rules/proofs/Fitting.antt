@@ -12,12 +12,12 @@ use Rattle.rules.specs.Records.{Body, struck, Record}
 use Rattle.rules.specs.Kinds.{Kind}
 use Rattle.rules.specs.Tables.{Table, restricted}
 use Rattle.rules.specs.Sheets.{Sheet, run, cells, stamps, place_of, front_length}
-use Rattle.rules.specs.Reading.{table_at, bad_number, head_read, table_checked, table_read, own_checked, Part, entry_part, stamp-part, part_at, body_of, record_at, records_at, records_read, read}
+use Rattle.rules.specs.Reading.{table_at, bad_number, head_read, table_checked, table_read, own_checked, Part, entry_part, stamp_part, part_at, body_of, record_at, records_at, records_read, read}
 use Rattle.rules.specs.Fits.{stamp, Reaches, Fit}
 use Rattle.rules.proofs.Refusing.{then_ok, by_test, by_step, by_made, made_at, none_ok}
 use Rattle.rules.proofs.Searching.{none_found}
 use Rattle.rules.proofs.Sequences.{in_run, in_runs}
-use Rattle.rules.proofs.Tables.{true_within, inside, same-restricted}
+use Rattle.rules.proofs.Tables.{true_within, inside, same_restricted}
 use Rattle.rules.proofs.Bodies.{Known, AllKnown}
 use Rattle.rules.proofs.Back.{own_passes}
 
@@ -80,7 +80,7 @@ module _ {E : Type 0} (K : Kind E) (N i : ℕ) (bs : List ℕ) where
       by_step (table_checked N k (table_at N bs)) _ (Tabled k) λ t e.
       let S = table_at N bs in
       let f = none_ok (first (bad_number S k) (cells N)) (λ c. bad_table (place_of N c.0 c.1)) t e in (
-        same-restricted N S (λ r u. at32 bs (place_of N r u)) (λ r u hr hu. inside N (λ r u. at32 bs (place_of N r u)) r u hr hu),
+        same_restricted N S (λ r u. at32 bs (place_of N r u)) (λ r u hr hu. inside N (λ r u. at32 bs (place_of N r u)) r u hr hu),
         λ r u hr hu.
             good S k r u
             (none_found (bad_number S k) (cells N) f (r, u)
@@ -94,7 +94,7 @@ module _ {E : Type 0} (K : Kind E) (N i : ℕ) (bs : List ℕ) where
     body_fits : (p : Part) → IfOk (body_of K N known p) (λ b. Known N known b)
     body_fits (entry_part xs at) =
         by_step (refused_as (bad_entry_at at) (K.decoded xs)) _ (λ b. Known N known b) λ e q. tt
-    body_fits (stamp-part xs at) =
+    body_fits (stamp_part xs at) =
         by_test (within N (get_or xs 0 0)) (bad_record at) _ (λ b. Known N known b) λ site.
         by_test (leb 1 (at32 xs 1) && leb (at32 xs 1) (known (get_or xs 0 0))) (bad_record (at + 1)) _ (λ b. Known N known b) λ num.
         let n = and_parts (leb 1 (at32 xs 1)) (leb (at32 xs 1) (known (get_or xs 0 0))) num in
@@ -169,5 +169,5 @@ module _ {E : Type 0} (K : Kind E) (N i : ℕ) (bs : List ℕ) where
         (then_ok (table_read N k bs) S _ _ tb
         (then_ok (own_checked N i S own) tt _ _ (own_passes N i S own f) (then_ok (records_read K N k i S bs) rs _ _ rd refl)))
 
-    pub read-own : (p : Sheet E) → read K N i None bs ≡ Ok p → Reaches N (p.table i) own → read K N i own bs ≡ Ok p
-    read-own p e = made_at (read K N i None bs) Owned p owned e
+    pub read_own : (p : Sheet E) → read K N i None bs ≡ Ok p → Reaches N (p.table i) own → read K N i own bs ≡ Ok p
+    read_own p e = made_at (read K N i None bs) Owned p owned e

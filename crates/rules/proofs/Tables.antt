@@ -15,7 +15,7 @@ use Rattle.rules.specs.Reading.{table_at, table_read, table_checked, bad_number}
 use Rattle.rules.proofs.Refusing.{passes}
 use Rattle.rules.proofs.Searching.{first_none}
 use Rattle.rules.proofs.Sequences.{runs_in}
-use Rattle.rules.proofs.Bytes.{at32_here, joined_append, drop-front}
+use Rattle.rules.proofs.Bytes.{at32_here, joined_append, drop_front}
 
 module _ (S : ℕ → ℕ → ℕ) where
   abbrev cell_bytes : ℕ × ℕ → List ℕ
@@ -63,13 +63,13 @@ module _ (S : ℕ → ℕ → ℕ) where
       let a : flat_map cell_bytes (A ++ B) ++ t ≡ flat_map cell_bytes A ++ (flat_map cell_bytes B ++ t) =
       ap (λ xs. xs ++ t) (joined_append cell_bytes A B) ∙ append_assoc (flat_map cell_bytes A) (flat_map cell_bytes B) t in (
         r.0,
-        ap₂ drop z a ∙ drop-front (flat_map cell_bytes A) (flat_map cell_bytes B ++ t) (4 * N) (4 * (p * N + q)) (row_long v 1 N) ∙ r.1,
+        ap₂ drop z a ∙ drop_front (flat_map cell_bytes A) (flat_map cell_bytes B ++ t) (4 * N) (4 * (p * N + q)) (row_long v 1 N) ∙ r.1,
       )
 
   -- the number for k and u stands at its place behind five bytes
-  number-there : (N k u a b c d e : ℕ) (t : List ℕ) → Within N k → Within N u → S k u < 4294967296 →
+  number_there : (N k u a b c d e : ℕ) (t : List ℕ) → Within N k → Within N u → S k u < 4294967296 →
       at32 (a ∷ b ∷ c ∷ d ∷ e ∷ (table_bytes N S ++ t)) (place_of N k u) ≡ S k u
-  number-there N k u a b c d e t hk hu small =
+  number_there N k u a b c d e t hk hu small =
       let r = rows_drop N 1 N (k - 1) (u - 1) k u t (omega arith) (omega arith) (omega arith) (omega arith) in
       let x = 4 * ((k - 1) * N + (u - 1)) in
       let z : place_of N k u ≡ suc (suc (suc (suc (suc x)))) = omega arith in
@@ -93,18 +93,18 @@ cond_same true x y h = h refl
 cond_same false x y h = refl
 
 -- tables that agree in the group
-pub same-restricted : (N : ℕ) (S S' : ℕ → ℕ → ℕ) → ((k u : ℕ) → Within N k → Within N u → S k u ≡ S' k u) →
+pub same_restricted : (N : ℕ) (S S' : ℕ → ℕ → ℕ) → ((k u : ℕ) → Within N k → Within N u → S k u ≡ S' k u) →
     restricted N S ≡ restricted N S'
-same-restricted N S S' h =
+same_restricted N S S' h =
     fun_ext (λ k. fun_ext (λ u. cond_same (within N k && within N u) (S k u) (S' k u)
     (λ e. let p = and_parts (within N k) (within N u) e in h k u (true_within N k p.0) (true_within N u p.1))))
 
-table-there : (N : ℕ) (S : ℕ → ℕ → ℕ) (a b c d e : ℕ) (t : List ℕ) →
+table_there : (N : ℕ) (S : ℕ → ℕ → ℕ) (a b c d e : ℕ) (t : List ℕ) →
     ((k u : ℕ) → Within N k → Within N u → S k u ≤ 1000000) →
     table_at N (a ∷ b ∷ c ∷ d ∷ e ∷ (table_bytes N S ++ t)) ≡ restricted N S
-table-there N S a b c d e t small =
-    same-restricted N (λ k u. at32 (a ∷ b ∷ c ∷ d ∷ e ∷ (table_bytes N S ++ t)) (place_of N k u)) S
-    (λ k u hk hu. number-there S N k u a b c d e t hk hu (let h = small k u hk hu in omega arith))
+table_there N S a b c d e t small =
+    same_restricted N (λ k u. at32 (a ∷ b ∷ c ∷ d ∷ e ∷ (table_bytes N S ++ t)) (place_of N k u)) S
+    (λ k u hk hu. number_there S N k u a b c d e t hk hu (let h = small k u hk hu in omega arith))
 
 -- a table without a bad number
 table_passes : (N k : ℕ) (S : ℕ → ℕ → ℕ) →
@@ -132,16 +132,16 @@ table_passes N k S small own =
         ]
 
 -- the table of a sheet
-pub table-reads : (N k : ℕ) (S : ℕ → ℕ → ℕ) (a b c d e : ℕ) (t : List ℕ) → Within N k →
+pub table_reads : (N k : ℕ) (S : ℕ → ℕ → ℕ) (a b c d e : ℕ) (t : List ℕ) → Within N k →
     ((r u : ℕ) → Within N r → Within N u → S r u ≤ S k u) →
     ((u : ℕ) → Within N u → S u u ≡ S k u) →
     ((u : ℕ) → Within N u → S k u ≤ 1000000) →
     table_read N k (a ∷ b ∷ c ∷ d ∷ e ∷ (table_bytes N S ++ t)) ≡ Ok (restricted N S)
-table-reads N k S a b c d e t hk tops own small =
+table_reads N k S a b c d e t hk tops own small =
     let bs = a ∷ b ∷ c ∷ d ∷ e ∷ (table_bytes N S ++ t) in
     let low : (r u : ℕ) → Within N r → Within N u → S r u ≤ 1000000 =
     λ r u hr hu. let x = tops r u hr hu in let y = small u hu in omega arith in
-    let here = table-there N S a b c d e t low in
+    let here = table_there N S a b c d e t low in
     let long : front_length N ≤ length bs =
     let x = length-append (table_bytes N S) t in let y = rows_long S N 1 N in omega arith in
     let fine : table_checked N k (restricted N S) ≡ Ok tt =
@@ -161,8 +161,8 @@ same_runs f c f' c' v (suc m) h =
     let x = h v (omega arith) (omega arith) in
     ap₂ ◌++◌ (ap₂ (run v) x.0 x.1) (same_runs f c f' c' (v + 1) m (λ u a b. h u (omega arith) (omega arith)))
 
-pub same-stamps : (N k i : ℕ) (S : ℕ → ℕ → ℕ) → Within N k → Within N i → stamps N k i (restricted N S) ≡ stamps N k i S
-same-stamps N k i S hk hi =
+pub same_stamps : (N k i : ℕ) (S : ℕ → ℕ → ℕ) → Within N k → Within N i → stamps N k i (restricted N S) ≡ stamps N k i S
+same_stamps N k i S hk hi =
     same_runs (λ u. restricted N S i u + 1) (λ u. restricted N S k u - restricted N S i u) (λ u. S i u + 1) (λ u. S k u - S i u) 1 N
     (λ u a b.
     let x = inside N S i u hi (a, omega arith) in let y = inside N S k u hk (a, omega arith) in

@@ -56,7 +56,7 @@ own_checked N i S (Some ours) = none_of (ahead N i S ours) (λ c. beyond_own_row
 -- a record as a part of a sheet's bytes: what stands behind its first byte, and where
 pub data Part : Type 0 where
   entry_part : (bytes : List ℕ) (place : ℕ) → Part
-  stamp-part : (bytes : List ℕ) (place : ℕ) → Part
+  stamp_part : (bytes : List ℕ) (place : ℕ) → Part
 
 -- n bytes from a place on as a part, and the place behind them
 abbrev pub cut : List ℕ → (List ℕ → ℕ → Part) → ℕ → ℕ → Result (Part × ℕ) Refusal
@@ -69,7 +69,7 @@ abbrev pub part_at : ℕ → List ℕ → ℕ → Result (Part × ℕ) Refusal
 part_at width bs at = do
   _ ← require (nat_lt at (length bs)) (ends_early (length bs))
   cond (slice_index bs at == 1) (cut bs entry_part (at + 1) width)
-      (cond (slice_index bs at == 2) (cut bs stamp-part (at + 1) 5) (Err (bad_record at)))
+      (cond (slice_index bs at == 2) (cut bs stamp_part (at + 1) 5) (Err (bad_record at)))
 
 -- in a group of N, from a writer that knows so many events of each site
 module _ {E : Type 0} (K : Kind E) (N : ℕ) (known : ℕ → ℕ) where
@@ -78,7 +78,7 @@ module _ {E : Type 0} (K : Kind E) (N : ℕ) (known : ℕ → ℕ) where
   body_of (entry_part xs at) = do
     e ← refused_as (bad_entry_at at) (K.decoded xs)
     Ok (booked e)
-  body_of (stamp-part xs at) = do
+  body_of (stamp_part xs at) = do
     _ ← require (within N (slice_index xs 0)) (bad_record at)
     _ ← require (nat_le 1 (at32 xs 1) && nat_le (at32 xs 1) (known (slice_index xs 0))) (bad_record (at + 1))
     Ok (struck (slice_index xs 0) (at32 xs 1))

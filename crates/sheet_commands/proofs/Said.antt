@@ -12,9 +12,9 @@ pub piece : (t b rest whole t' : List ℕ) → t' ≡ t ++ b → t ++ (b ++ rest
 piece t b rest whole t' e h = ap (λ x. x ++ rest) e ∙ append_assoc t b rest ∙ h
 
 -- the next number of a row
-pub cell-next : (T : Table) (k n u : ℕ) → u ≤ n →
+pub cell_next : (T : Table) (k n u : ℕ) → u ≤ n →
     flat_map (cell_text T) (run k u (n + 1 - u)) ≡ cell_text T (k, u) ++ flat_map (cell_text T) (run k (u + 1) (n + 1 - (u + 1)))
-cell-next T k n u h =
+cell_next T k n u h =
     let e : n + 1 - u ≡ suc (n + 1 - (u + 1)) = omega arith in ap (λ m. flat_map (cell_text T) (run k u m)) e
 
 -- the front of a row's line, and the numbers behind it
@@ -30,8 +30,8 @@ pub row_next : (T : Table) (n k : ℕ) → k ≤ n → rows_from T n k (n + 1 - 
 row_next T n k h = let e : n + 1 - k ≡ suc (n + 1 - (k + 1)) = omega arith in ap (rows_from T n k) e
 
 -- what a check that passed says is read
-pub read-from : {E : Type 0} (m : Result (Sheet E) Refusal) (k : ℕ) (T : Table) → Ok (k, T) ≡ without_records m →
+pub read_from : {E : Type 0} (m : Result (Sheet E) Refusal) (k : ℕ) (T : Table) → Ok (k, T) ≡ without_records m →
     (p : Sheet E) × (m ≡ Ok p) × (p.writer ≡ k) × (p.table ≡ T)
-read-from (Ok p) k T e =
+read_from (Ok p) k T e =
     let f : (k, T) ≡ (p.writer, p.table) = cc in (p, refl, ap (λ (q : ℕ × Table). q.0) (sym f), ap (λ (q : ℕ × Table). q.1) (sym f))
-read-from (Err x) k T e = let z : ◌≡◌ {A = ℕ} 0 1 = cc in absurd (omega arith)
+read_from (Err x) k T e = let z : ◌≡◌ {A = ℕ} 0 1 = cc in absurd (omega arith)

@@ -11,7 +11,7 @@ use Rattle.rules.specs.Sheets.{Sheet, cells, stamps, place_of, front_length}
 use Rattle.rules.specs.Reading.{table_at, bad_number, head_read, own_checked, ahead, record_at, records_at, records_read, read}
 use Rattle.rules.proofs.Searching.{none_found}
 use Rattle.rules.proofs.Sequences.{in_runs}
-use Rattle.rules.proofs.Tables.{inside, same-restricted}
+use Rattle.rules.proofs.Tables.{inside, same_restricted}
 use Rattle.kinds.specs.Formats.{Format, rule_of}
 use Rattle.readers.specs.declared.refusal.HeadByte.TheVariants.{Version, Sites, Writer, Addressee, Kind}
 use Rattle.readers.specs.declared.refusal.SheetRefusal.{SheetRefusal}
@@ -112,7 +112,7 @@ module _ {E : Type 0} (f : Format E) (N i : ℕ) (own : Option (ℕ → ℕ)) (b
   low k e =
       let S = table_at N bs in
       let T : Table = λ r u. at32 bs (place_of N r u) in
-      uncapped N S (same-restricted N S T (λ r u hr hu. inside N T r u hr hu))
+      uncapped N S (same_restricted N S T (λ r u hr hu. inside N T r u hr hu))
       (λ r u hr hu.
       ltb-false 1000000 (S r u)
       (or_parts _ _

@@ -40,9 +40,9 @@ module _ (N : ℕ) (known credited : ℕ → ℕ) where
       ]
 
   -- the next stamp
-  pub next-left : (p d : ℕ) → p < N → d < known (p + 1) →
+  pub next_left : (p d : ℕ) → p < N → d < known (p + 1) →
       stamps_left N known credited p d ≡ (p + 1, d + 1) ∷ stamps_left N known credited p (d + 1)
-  next-left p d l h =
+  next_left p d l h =
       cond-true (ltb p N) (left N known credited (p + 1) (d + 1)) [] (lt-ltb p N l)
       ∙ takes (p + 1) (d + 1) (omega arith)
       ∙ ap (λ z. (p + 1, d + 1) ∷ z) (sym (cond-true (ltb p N) (left N known credited (p + 1) (d + 1 + 1)) [] (lt-ltb p N l)))

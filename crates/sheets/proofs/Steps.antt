@@ -9,9 +9,9 @@ run_more : (k n m : ℕ) → 1 ≤ m → run k n m ≡ (k, n) ∷ run k (n + 1) 
 run_more k n zero h = absurd (omega arith)
 run_more k n (suc m) h = let e : m ≡ suc m - 1 = omega arith in ap (λ x. (k, n) ∷ run k (n + 1) x) e
 
-runs-more : (f c : ℕ → ℕ) (v m : ℕ) → 1 ≤ m → runs f c v m ≡ run v (f v) (c v) ++ runs f c (v + 1) (m - 1)
-runs-more f c v zero h = absurd (omega arith)
-runs-more f c v (suc m) h = let e : m ≡ suc m - 1 = omega arith in ap (λ x. run v (f v) (c v) ++ runs f c (v + 1) x) e
+runs_more : (f c : ℕ → ℕ) (v m : ℕ) → 1 ≤ m → runs f c v m ≡ run v (f v) (c v) ++ runs f c (v + 1) (m - 1)
+runs_more f c v zero h = absurd (omega arith)
+runs_more f c v (suc m) h = let e : m ≡ suc m - 1 = omega arith in ap (λ x. run v (f v) (c v) ++ runs f c (v + 1) x) e
 
 -- a search in row k from column u on
 module _ (p : ℕ × ℕ → Bool) (N k : ℕ) where
@@ -58,7 +58,7 @@ module _ {X : Type 0} (p : ℕ × ℕ → Bool) (g : ℕ × ℕ → X) (N : ℕ)
   rows_step k h =
       let e : N + 1 - k - 1 ≡ N + 1 - (k + 1) = omega arith in
       ap (λ cs. none_of (first p cs) g)
-      (runs-more (λ _. 1) (λ _. N) k (N + 1 - k) (omega arith) ∙ ap (λ x. run k 1 N ++ runs (λ _. 1) (λ _. N) (k + 1) x) e)
+      (runs_more (λ _. 1) (λ _. N) k (N + 1 - k) (omega arith) ∙ ap (λ x. run k 1 N ++ runs (λ _. 1) (λ _. N) (k + 1) x) e)
       ∙ found_then p g (run k 1 N) (runs (λ _. 1) (λ _. N) (k + 1) (N + 1 - (k + 1)))
 
   pub rows_end : (k : ℕ) → N < k → from_row k ≡ Ok tt

@@ -11,25 +11,25 @@ pub row_past : (ns : List ℕ) (u : ℕ) → length ns < u → number_in ns u �
 row_past ns zero h = refl
 row_past ns (suc u) h = get_or_past ns u 0 (omega arith)
 
-blank-past : (u : ℕ) → number_in blank.numbers u ≡ 0
-blank-past zero = refl
-blank-past (suc zero) = refl
-blank-past (suc (suc zero)) = refl
-blank-past (suc (suc (suc zero))) = refl
-blank-past (suc (suc (suc (suc zero)))) = refl
-blank-past (suc (suc (suc (suc (suc zero))))) = refl
-blank-past (suc (suc (suc (suc (suc (suc zero)))))) = refl
-blank-past (suc (suc (suc (suc (suc (suc (suc zero))))))) = refl
-blank-past (suc (suc (suc (suc (suc (suc (suc (suc zero)))))))) = refl
-blank-past (suc (suc (suc (suc (suc (suc (suc (suc (suc u))))))))) = row_past blank.numbers (suc (suc (suc (suc (suc (suc (suc (suc (suc u))))))))) (omega arith)
+blank_past : (u : ℕ) → number_in blank.numbers u ≡ 0
+blank_past zero = refl
+blank_past (suc zero) = refl
+blank_past (suc (suc zero)) = refl
+blank_past (suc (suc (suc zero))) = refl
+blank_past (suc (suc (suc (suc zero)))) = refl
+blank_past (suc (suc (suc (suc (suc zero))))) = refl
+blank_past (suc (suc (suc (suc (suc (suc zero)))))) = refl
+blank_past (suc (suc (suc (suc (suc (suc (suc zero))))))) = refl
+blank_past (suc (suc (suc (suc (suc (suc (suc (suc zero)))))))) = refl
+blank_past (suc (suc (suc (suc (suc (suc (suc (suc (suc u))))))))) = row_past blank.numbers (suc (suc (suc (suc (suc (suc (suc (suc (suc u))))))))) (omega arith)
 
 -- the empty row and the empty table
 pub row_blank : in_row blank ≡ (λ _. 0)
-row_blank = λ j u. blank-past u j
+row_blank = λ j u. blank_past u j
 
-pub rows-past : (rs : List Row) (k u : ℕ) → length rs < k → in_rows rs k u ≡ 0
-rows-past rs zero u h = refl
-rows-past rs (suc k) u h = ap (λ (r : Row). number_in r.numbers u) (get_or_past rs k blank (omega arith)) ∙ blank-past u
+pub rows_past : (rs : List Row) (k u : ℕ) → length rs < k → in_rows rs k u ≡ 0
+rows_past rs zero u h = refl
+rows_past rs (suc k) u h = ap (λ (r : Row). number_in r.numbers u) (get_or_past rs k blank (omega arith)) ∙ blank_past u
 
 -- one number of a row
 set_row : (ns : List ℕ) (u n : ℕ) → 1 ≤ u → u ≤ length ns → (w : ℕ) → number_in (set ns (u - 1) n) w ≡ cond (eqb w u) n (number_in ns w)
@@ -105,8 +105,8 @@ row_is rs (suc k) d a b =
     ap (λ i. in_row (get_or rs i d)) q ∙ ap in_row (get_or_default rs k d blank (omega arith))
 
 -- one row more
-pub raised-more : (T S : Table) (k : ℕ) → row_raised (rows_raised T k S) k (S k) ≡ rows_raised T (k + 1) S
-raised-more T S k = λ j a u. at a u j
+pub raised_more : (T S : Table) (k : ℕ) → row_raised (rows_raised T k S) k (S k) ≡ rows_raised T (k + 1) S
+raised_more T S k = λ j a u. at a u j
   where
     at : (a u : ℕ) → row_raised (rows_raised T k S) k (S k) a u ≡ rows_raised T (k + 1) S a u
     at a u =
@@ -139,6 +139,6 @@ raised_all t o k e = λ j a u. at a u j
           | inl l ↦ cond-true (ltb a k) _ _ (lt-ltb a k l)
           | inr g ↦
               cond-false (ltb a k) (max (number t a u) (number o a u)) (number t a u) (le-ltb a k g)
-              ∙ (let p = rows-past t.rows a u (omega (arith, t.long)) in
-              let q = rows-past o.rows a u (omega (arith, o.long)) in omega arith)
+              ∙ (let p = rows_past t.rows a u (omega (arith, t.long)) in
+              let q = rows_past o.rows a u (omega (arith, o.long)) in omega arith)
         ]

@@ -15,9 +15,9 @@ capped_on (c ∷ cs) a b e =
     cond_capped (digit c) _ _ (capped_on cs (a * 10 + (c - 48)) (b * 10 + (c - 48)) (omega arith))
 
 -- at a place of the text: a digit is read on, and anything else ends it
-pub digit-more : (n : ℕ) (cs : List ℕ) (i : ℕ) → i < length cs → 48 ≤ get_or cs i 0 → get_or cs i 0 ≤ 57 →
+pub digit_more : (n : ℕ) (cs : List ℕ) (i : ℕ) → i < length cs → 48 ≤ get_or cs i 0 → get_or cs i 0 ≤ 57 →
     read_on n (drop i cs) ≡ read_on (n * 10 + (get_or cs i 0 - 48)) (drop (i + 1) cs)
-digit-more n cs i h a b = let e = at_drop_more (read_on n) cs i 0 h in grind (arith, nat_tests)
+digit_more n cs i h a b = let e = at_drop_more (read_on n) cs i 0 h in grind (arith, nat_tests)
 
 pub digit_none : (n : ℕ) (cs : List ℕ) (i : ℕ) → i < length cs → (48 ≤ get_or cs i 0 → get_or cs i 0 ≤ 57 → ⊥) → read_on n (drop i cs) ≡ None
 digit_none n cs i h a = let e = at_drop_more (read_on n) cs i 0 h in grind (arith, nat_tests)

@@ -9,9 +9,9 @@ front_none None = refl
 front_none (Some p) = refl
 
 -- one text before another
-pub front-more : (xs ys : List ℕ) (o : Option Parts) → with_front (xs ++ ys) o ≡ with_front xs (with_front ys o)
-front-more xs ys None = refl
-front-more xs ys (Some p) = ap (λ zs. Some (zs, p.1)) (append_assoc xs ys p.0)
+pub front_more : (xs ys : List ℕ) (o : Option Parts) → with_front (xs ++ ys) o ≡ with_front xs (with_front ys o)
+front_more xs ys None = refl
+front_more xs ys (Some p) = ap (λ zs. Some (zs, p.1)) (append_assoc xs ys p.0)
 
 module _ (m : ℕ) (cs : List ℕ) (i : ℕ) (h : i < length cs) where
   -- the byte at a place is not the one that is looked for
@@ -21,7 +21,7 @@ module _ (m : ℕ) (cs : List ℕ) (i : ℕ) (h : i < length cs) where
       let rest = split_at m (drop (i + 1) cs) in
       let e : split_at m (drop i cs) ≡ with_front (c ∷ []) rest =
       at_drop_more (split_at m) cs i 0 h ∙ ap (λ b. cond b (Some ([], drop (i + 1) cs)) (with_front (c ∷ []) rest)) (ne_eqb c m n) in
-      ap (λ xs. with_front xs rest) (take_more cs i 0 h) ∙ front-more (take i cs) (c ∷ []) rest ∙ ap (with_front (take i cs)) (sym e)
+      ap (λ xs. with_front xs rest) (take_more cs i 0 h) ∙ front_more (take i cs) (c ∷ []) rest ∙ ap (with_front (take i cs)) (sym e)
 
   -- it is
   pub split_here : get_or cs i 0 ≡ m → Some (take i cs, drop (i + 1) cs) ≡ with_front (take i cs) (split_at m (drop i cs))

@@ -8,17 +8,17 @@ by_blank : (b : Bool) (P : Bool → Type 0) → P true → P false → P b
 by_blank true P x y = x
 by_blank false P x y = y
 
-pub word-within : (cs : List ℕ) → length (front_word cs) ≤ length cs
-word-within [] = omega arith
-word-within (c ∷ cs) =
-    let h = word-within cs in
+pub word_within : (cs : List ℕ) → length (front_word cs) ≤ length cs
+word_within [] = omega arith
+word_within (c ∷ cs) =
+    let h = word_within cs in
     by_blank (blank c) (λ b. length (cond b [] (c ∷ front_word cs)) ≤ length (c ∷ cs)) (omega arith) (omega arith)
 
-pub word-front : (cs : List ℕ) → take (length (front_word cs)) cs ≡ front_word cs
-word-front [] = refl
-word-front (c ∷ cs) =
+pub word_front : (cs : List ℕ) → take (length (front_word cs)) cs ≡ front_word cs
+word_front [] = refl
+word_front (c ∷ cs) =
     by_blank (blank c) (λ b. take (length (cond b [] (c ∷ front_word cs))) (c ∷ cs) ≡ cond b [] (c ∷ front_word cs)) refl
-    (ap (λ xs. c ∷ xs) (word-front cs))
+    (ap (λ xs. c ∷ xs) (word_front cs))
 
 pub word_back : (cs : List ℕ) → drop (length (front_word cs)) cs ≡ past_word cs
 word_back [] = refl

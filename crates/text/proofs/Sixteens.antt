@@ -6,9 +6,9 @@ use Rattle.std.specs.Option.{option_map}
 use Rattle.text.specs.Hexadecimals.{hex_value, hex_digit, paired, led, hex_bytes_of, hex_text_of}
 
 -- two digits at a place
-pub pair-more : (cs : List ℕ) (i : ℕ) → i + 2 ≤ length cs →
+pub pair_more : (cs : List ℕ) (i : ℕ) → i + 2 ≤ length cs →
     hex_bytes_of (drop i cs) ≡ led (paired (hex_value (get_or cs i 0)) (hex_value (get_or cs (i + 1) 0))) (hex_bytes_of (drop (i + 2) cs))
-pair-more cs i h =
+pair_more cs i h =
     let p : i < length cs = omega arith in
     let q : i + 1 < length cs = omega arith in
     ap hex_bytes_of (drop_more cs i 0 p ∙ ap (λ xs. get_or cs i 0 ∷ xs) (drop_more cs (i + 1) 0 q))
@@ -30,8 +30,8 @@ pub text_more : (bs : List ℕ) (i : ℕ) → i < length bs →
 text_more bs i h = at_drop_more hex_text_of bs i 0 h
 
 -- two digits written behind a text
-pub two-written : (t xs : List ℕ) (a b : ℕ) → ((t ++ (a ∷ [])) ++ (b ∷ [])) ++ xs ≡ t ++ (a ∷ b ∷ xs)
-two-written t xs a b = append_assoc (t ++ (a ∷ [])) (b ∷ []) xs ∙ append_assoc t (a ∷ []) (b ∷ xs)
+pub two_written : (t xs : List ℕ) (a b : ℕ) → ((t ++ (a ∷ [])) ++ (b ∷ [])) ++ xs ≡ t ++ (a ∷ b ∷ xs)
+two_written t xs a b = append_assoc (t ++ (a ∷ [])) (b ∷ []) xs ∙ append_assoc t (a ∷ []) (b ∷ xs)
 
 pub digit_ascii : (n : ℕ) → n < 16 → hex_digit n < 128
 digit_ascii n h = grind (arith, nat_tests)

@@ -37,7 +37,7 @@ abbrev pub kind : Kind Booking
 kind = rule_of bookings
 
 -- site i of 3, with a ring and a calendar of so many places
-abbrev pub site : (i ring-places calendar-places : ℕ) → Setting Booking
+abbrev pub site : (i ring_places calendar_places : ℕ) → Setting Booking
 site i M D = record { sites = 3; own = i; kind = kind; limits = ring_limits M; room = D }
 
 abbrev pub at : ℕ → Setting Booking

@@ -18,9 +18,9 @@ pub over_none : (xs : List ℕ) (i : ℕ) → over xs i [] ≡ xs
 over_none xs i = simp add-zero (take-append-drop i xs)
 
 -- one part written behind another
-pub over-more : (xs ws vs : List ℕ) (i k : ℕ) → i + length ws ≤ length xs → k ≡ i + length ws
+pub over_more : (xs ws vs : List ℕ) (i k : ℕ) → i + length ws ≤ length xs → k ≡ i + length ws
     → over (over xs i ws) k vs ≡ over xs i (ws ++ vs)
-over-more xs ws vs i k h e =
+over_more xs ws vs i k h e =
     let n : length (take i xs ++ ws) ≡ k = length-append (take i xs) ws ∙ (simp length-take (omega arith)) in
     let w : over xs i ws ≡ (take i xs ++ ws) ++ drop k xs = rw e (sym (append_assoc (take i xs) ws (drop (i + length ws) xs))) in
     let t : take k (over xs i ws) ≡ take i xs ++ ws = rw w (take_at (take i xs ++ ws) (drop k xs) k n) in
@@ -33,16 +33,16 @@ over-more xs ws vs i k h e =
     ∙ ap (λ ys. take i xs ++ ys) (sym (append_assoc ws vs (drop (i + length (ws ++ vs)) xs)))
 
 -- one byte written
-pub set-over : (xs : List ℕ) (i b : ℕ) → i < length xs → set xs i b ≡ over xs i (b ∷ [])
-set-over xs i b h = set_split xs i b h ∙ ap (λ k. take i xs ++ b ∷ drop k xs) (let e : suc i ≡ i + 1 = omega arith in e)
+pub set_over : (xs : List ℕ) (i b : ℕ) → i < length xs → set xs i b ≡ over xs i (b ∷ [])
+set_over xs i b h = set_split xs i b h ∙ ap (λ k. take i xs ++ b ∷ drop k xs) (let e : suc i ≡ i + 1 = omega arith in e)
 
 -- one byte written behind others
-pub set-behind : (xs ws : List ℕ) (i k b : ℕ) → i + length ws < length xs → k ≡ i + length ws → set (over xs i ws) k b ≡ over xs i (ws ++ b ∷ [])
-set-behind xs ws i k b h e =
+pub set_behind : (xs ws : List ℕ) (i k b : ℕ) → i + length ws < length xs → k ≡ i + length ws → set (over xs i ws) k b ≡ over xs i (ws ++ b ∷ [])
+set_behind xs ws i k b h e =
     let n = length_over xs ws i (omega arith) in
-    set-over (over xs i ws) k b (omega arith) ∙ over-more xs ws (b ∷ []) i k (omega arith) e
+    set_over (over xs i ws) k b (omega arith) ∙ over_more xs ws (b ∷ []) i k (omega arith) e
 
 -- a part written over behind others
-pub put-behind : (xs ws ys vs : List ℕ) (i k m : ℕ) → i + length ws ≤ length xs → k ≡ i + length ws → ys ≡ vs → m ≡ k + length vs - k
+pub put_behind : (xs ws ys vs : List ℕ) (i k m : ℕ) → i + length ws ≤ length xs → k ≡ i + length ws → ys ≡ vs → m ≡ k + length vs - k
     → put_mid k m (over xs i ws) ys ≡ over xs i (ws ++ vs)
-put-behind xs ws ys vs i k m h e p q = put_is (over xs i ws) ys vs k m p q ∙ over-more xs ws vs i k h e
+put_behind xs ws ys vs i k m h e p q = put_is (over xs i ws) ys vs k m p q ∙ over_more xs ws vs i k h e

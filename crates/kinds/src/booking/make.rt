@@ -1,7 +1,7 @@
 // Bookings: eight bytes, code 1.
 ghost use Rattle.std.specs.Prelude.{◌≡◌, Some};
 ghost use Rattle.kinds.specs.Bookings.{work_byte, work_of, work_text, booking_from, booking_text, bookings};
-ghost use Rattle.kinds.specs.Booked.{bookings-lawful};
+ghost use Rattle.kinds.specs.Booked.{bookings_lawful};
 
 use crate::booking::{Booking, Work};
 use crate::kind::Kind;
@@ -105,7 +105,7 @@ impl Booking {
 impl Kind for Booking {
     ghost format = { bookings };
 
-    ghost lawful = { bookings-lawful };
+    ghost lawful = { bookings_lawful };
 
     fn code() -> u8 {
         1

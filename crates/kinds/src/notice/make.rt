@@ -2,7 +2,7 @@
 ghost use Rattle.std.specs.Prelude.{◌≡◌, Some};
 ghost use Rattle.kinds.specs.Letters.{front};
 ghost use Rattle.kinds.specs.Notices.{line_out_from, word_from, notice_text, notices};
-ghost use Rattle.kinds.specs.Noticed.{notices-lawful};
+ghost use Rattle.kinds.specs.Noticed.{notices_lawful};
 
 use crate::kind::Kind;
 use crate::notice::{LineOut, Notice, Word};
@@ -61,7 +61,7 @@ impl Notice {
 impl Kind for Notice {
     ghost format = { notices };
 
-    ghost lawful = { notices-lawful };
+    ghost lawful = { notices_lawful };
 
     fn code() -> u8 {
         2

@@ -3,7 +3,7 @@ use Rattle.std.specs.List.{flat_map}
 use Rattle.rules.specs.Sheets.{run}
 use Rattle.tables.specs.Numbers.{number}
 use Rattle.sheet_commands.specs.Lines.{cell_text, row_line}
-use Rattle.sheet_commands.proofs.Said.{piece, cell-next, row_front}
+use Rattle.sheet_commands.proofs.Said.{piece, cell_next, row_front}
 use Rattle.sheet_commands.proofs.lines.say_row.Goals as goal
 
 pub loop-u-init : goal.loop-u-init
@@ -24,4 +24,4 @@ loop-u-preserved c =
     (c.in_ok-push_str.ensures.bytes
     ∙ ap (λ b. string_bytes c.loop-u.text ++ b)
     (c.deref.ensures ∙ c.in_ok-word.ensures.ok ∙ ap (λ x. 32 ∷ decimal x) c.number-number.ensures))
-    (ap (λ b. string_bytes c.loop-u.text ++ b) (sym (cell-next T k n u (omega arith))) ∙ c.loop-u.invariant)
+    (ap (λ b. string_bytes c.loop-u.text ++ b) (sym (cell_next T k n u (omega arith))) ∙ c.loop-u.invariant)

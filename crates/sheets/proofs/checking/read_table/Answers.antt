@@ -3,7 +3,7 @@ use Rattle.rules.specs.Numbers.{at32}
 use Rattle.rules.specs.Sheets.{place_of}
 use Rattle.rules.specs.Reading.{table_at}
 use Rattle.tables.specs.Numbers.{row_raised}
-use Rattle.tables.proofs.Cells.{raised-more}
+use Rattle.tables.proofs.Cells.{raised_more}
 use Rattle.sheets.proofs.Fronts.{table_begins, table_ends}
 use Rattle.sheets.proofs.checking.read_table.Goals as goal
 
@@ -18,7 +18,7 @@ loop-k-preserved c =
     let k = c.loop-k.k in
     c.raise_row.ensures.inside (omega arith, omega arith)
     ∙ (λ j. row_raised (c.loop-k.invariant j) k (c.read_row.ensures j))
-    ∙ raised-more (λ _ _. 0) S k
+    ∙ raised_more (λ _ _. 0) S k
 
 pub returns : goal.returns
 returns c =

@@ -2,7 +2,7 @@ use Rattle.std.proofs.Common.{◌≡◌, ◌+◌, ◌-◌, ◌*◌, ◌≤◌, m
 use borrow.Author.Tests.{eqb-false}
 use Rattle.std.proofs.lemmas.List.{at_drop_all}
 use Rattle.text.specs.Decimals.{read_on, most, capped}
-use Rattle.text.proofs.Figures.{capped_on, digit-more, digit_none, whole}
+use Rattle.text.proofs.Figures.{capped_on, digit_more, digit_none, whole}
 use Rattle.text.proofs.decimals.decimal.Goals as goal
 use Rattle.text.proofs.decimals.decimal.Goals.{then-c-lt48-via-then-c-lt48, then-c-lt48-via-else-c-lt48+then-c-gt57}
 
@@ -28,7 +28,7 @@ loop-c-preserved c =
       omega (arith, c.saturating_add-n.ensures),
       capped_on (drop (i + 1) s) c.saturating_add-n.result (n * 10 + (get_or s i 0 - 48))
           (omega (arith, c.saturating_add-n.ensures, c.saturating_mul.ensures, c.from.ensures))
-          ∙ ap capped (sym (digit-more n s i c.loop-c-test.true c.if-c-lt48.false c.if-c-gt57.false))
+          ∙ ap capped (sym (digit_more n s i c.loop-c-test.true c.if-c-lt48.false c.if-c-gt57.false))
           ∙ c.loop-c.invariant.1,
     )
 

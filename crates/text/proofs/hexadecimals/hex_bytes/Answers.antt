@@ -2,7 +2,7 @@ use Rattle.std.proofs.Common.{◌+◌, ◌++◌, drop, Some, vec_items, sym, ap,
 use Rattle.std.proofs.lemmas.List.{at_drop_all}
 use Rattle.std.specs.Option.{option_map}
 use Rattle.text.specs.Hexadecimals.{led, hex_bytes_of}
-use Rattle.text.proofs.Sixteens.{pair-more, pair_none, read_more}
+use Rattle.text.proofs.Sixteens.{pair_more, pair_none, read_more}
 use Rattle.text.proofs.hexadecimals.hex_bytes.Goals as goal
 
 pub returns-in_default : goal.returns-in_default
@@ -10,7 +10,7 @@ returns-in_default c =
     let s = c.args.text.now in
     let i = c.loop-i.i in
     ap (option_map (λ bs. vec_items c.loop-i.bytes ++ bs))
-    (sym (pair-more s i (omega (arith, c.loop-i-test.true)) ∙ ap (λ o. led o (hex_bytes_of (drop (i + 2) s))) (sym c.in_default.ensures)))
+    (sym (pair_more s i (omega (arith, c.loop-i-test.true)) ∙ ap (λ o. led o (hex_bytes_of (drop (i + 2) s))) (sym c.in_default.ensures)))
     ∙ c.loop-i.invariant.1
 
 pub loop-i-preserved : goal.loop-i-preserved
@@ -22,7 +22,7 @@ loop-i-preserved c =
       ap (λ ys. option_map (λ bs. ys ++ bs) (hex_bytes_of (drop (i + 2) s))) c.in_ok-push.ensures.items
           ∙ read_more xs c.in-Some.b (hex_bytes_of (drop (i + 2) s))
           ∙ ap (option_map (λ bs. xs ++ bs))
-          (ap (λ o. led o (hex_bytes_of (drop (i + 2) s))) c.in-Some.ensures ∙ sym (pair-more s i (omega (arith, c.loop-i-test.true))))
+          (ap (λ o. led o (hex_bytes_of (drop (i + 2) s))) c.in-Some.ensures ∙ sym (pair_more s i (omega (arith, c.loop-i-test.true))))
           ∙ c.loop-i.invariant.1,
     )
 

@@ -1,7 +1,7 @@
 use Rattle.std.proofs.Common.{◌≡◌, ◌+◌, ◌/◌, ◌%◌, ◌<◌, [], ◌∷◌, ◌++◌, get_or, drop, string_bytes, sym, ap, ◌∙◌, append-nil, arith}
 use Rattle.std.proofs.lemmas.List.{at_drop_all}
 use Rattle.text.specs.Hexadecimals.{hex_digit, hex_text_of}
-use Rattle.text.proofs.Sixteens.{text_more, two-written, digit_ascii}
+use Rattle.text.proofs.Sixteens.{text_more, two_written, digit_ascii}
 use Rattle.text.proofs.hexadecimals.hex_text.Goals as goal
 
 pub loop-b-preserved : goal.loop-b-preserved
@@ -16,7 +16,7 @@ loop-b-preserved c =
     let w : string_bytes c.push-in-loop-b.new.self ≡ (t ++ (hex_digit (b / 16) ∷ [])) ++ (hex_digit (b % 16) ∷ []) =
     q ∙ (λ j. (p ∙ ap (λ d. t ++ (d ∷ [])) c.digit_of.ensures) j ++ (c.digit_of-in-loop-b.ensures j ∷ [])) in
     ap (λ xs. xs ++ hex_text_of (drop (i + 1) s)) w
-    ∙ two-written t (hex_text_of (drop (i + 1) s)) (hex_digit (b / 16)) (hex_digit (b % 16))
+    ∙ two_written t (hex_text_of (drop (i + 1) s)) (hex_digit (b / 16)) (hex_digit (b % 16))
     ∙ ap (λ xs. t ++ xs) (sym (text_more s i c.loop-b-test.true))
     ∙ c.loop-b.invariant
 

@@ -1,7 +1,7 @@
 use Rattle.std.proofs.Common.{arith}
 use Rattle.std.proofs.lemmas.List.{at_drop_all}
 use Rattle.kinds.specs.Letters.{front}
-use Rattle.kinds.specs.Noticed.{front-more, front_stop}
+use Rattle.kinds.specs.Noticed.{front_more, front_stop}
 use Rattle.kinds.proofs.notice.make.letters_in_front.Goals as goal
 use Rattle.kinds.proofs.notice.make.letters_in_front.Goals.{then-b-lt65-via-then-b-lt65, then-b-lt65-via-else-b-lt65+then-b-gt90}
 
@@ -15,7 +15,7 @@ returns-then-b-lt65 c =
     )
 
 pub loop-i-preserved : goal.loop-i-preserved
-loop-i-preserved c = omega (arith, c.loop-i.invariant, front-more c.args.bytes.now c.loop-i.i (omega arith) (omega arith) (omega arith))
+loop-i-preserved c = omega (arith, c.loop-i.invariant, front_more c.args.bytes.now c.loop-i.i (omega arith) (omega arith) (omega arith))
 
 pub returns : goal.returns
 returns c = omega (arith, c.loop-i.invariant, at_drop_all front c.args.bytes.now c.loop-i.i (omega arith))

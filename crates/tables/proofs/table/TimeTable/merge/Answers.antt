@@ -1,6 +1,6 @@
 use Rattle.std.proofs.Common.{◌∙◌, arith}
 use Rattle.tables.specs.Numbers.{number, row_raised}
-use Rattle.tables.proofs.Cells.{raised-more, raised_all}
+use Rattle.tables.proofs.Cells.{raised_more, raised_all}
 use Rattle.tables.proofs.table.TimeTable.merge.Goals as goal
 
 pub loop-k-preserved : goal.loop-k-preserved
@@ -8,7 +8,7 @@ loop-k-preserved c =
     let k = c.loop-k.k in
     c.raise_row.ensures.inside (omega arith, omega arith)
     ∙ (λ j. row_raised (c.loop-k.invariant j) k (c.row.ensures j))
-    ∙ raised-more (number c.args.self.now) (number c.args.other.now) k
+    ∙ raised_more (number c.args.self.now) (number c.args.other.now) k
 
 pub returns : goal.returns
 returns c =

@@ -1,7 +1,7 @@
 use Rattle.std.proofs.Common.{◌<◌, cond, length, get_or, Some, None, sym, ap, ◌∙◌, arith}
 use Rattle.std.proofs.lemmas.List.{length-take-le, length-map}
-use Rattle.places.proofs.Tests.{all-at}
-use Rattle.places.proofs.Looked.{least-past, least_at}
+use Rattle.places.proofs.Tests.{all_at}
+use Rattle.places.proofs.Looked.{least_past, least_at}
 use Rattle.places.proofs.Mapped.{get_or_mapped}
 use Rattle.calendars.specs.Rows.{sound, blank, entry_in, entries_in, entry_read}
 use Rattle.calendars.specs.Used.{in_use}
@@ -13,7 +13,7 @@ returns-then-i-self g c =
     let rs = in_use s.rows in
     let e = length-take-le s.rows.len s.rows.rows.now s.within in
     let l = length-map rs (entry_in g.V.Kind.format) in
-    sym (least-past (entries_in g.V.Kind.format rs) c.args.i (omega arith))
+    sym (least_past (entries_in g.V.Kind.format rs) c.args.i (omega arith))
 
 pub returns : goal.returns
 returns g c =
@@ -27,6 +27,6 @@ returns g c =
     let h : i < length (entries_in f rs) = omega arith in
     c.entry.ensures
     ∙ ap (entry_read f) c.row.ensures
-    ∙ ap (λ b. cond b (Some (entry_in f (get_or rs i blank))) None) (all-at sound rs i blank s.stamped l)
+    ∙ ap (λ b. cond b (Some (entry_in f (get_or rs i blank))) None) (all_at sound rs i blank s.stamped l)
     ∙ ap Some (sym (get_or_mapped (entry_in f) rs i blank))
     ∙ sym (least_at (entries_in f rs) i (entry_in f blank) h)

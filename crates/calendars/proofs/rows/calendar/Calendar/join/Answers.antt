@@ -3,7 +3,7 @@ use Rattle.std.proofs.lemmas.List.{length-take-le, drop-set-lt}
 use Rattle.std.specs.List.{list_all}
 use Rattle.rules.specs.Refusals.{calendar_full}
 use Rattle.rules.specs.Entries.{room, join}
-use Rattle.rules.proofs.Stored.{room_passes, room-over}
+use Rattle.rules.proofs.Stored.{room_passes, room_over}
 use Rattle.places.specs.Ranks.{rank}
 use Rattle.places.specs.Shifts.{shifted_in}
 use Rattle.places.proofs.Tests.{all_set, all_inserted}
@@ -92,7 +92,7 @@ returns-then-len-room g c =
     let m = c.room.ensures in
     let n = one_more f rs s.ascending at.site at.number i found v has in
     let count : length J ≡ s.rows.len + 1 = omega arith in
-    let over = room-over (room (length xs)) J (omega arith) in
+    let over = room_over (room (length xs)) J (omega arith) in
     record {
       answer = sym (over ∙ ap (λ k. Err (calendar_full k)) count);
       entries = sym (ap (left (entries_in f rs) J) over);
