@@ -30,6 +30,7 @@ BY_HAND = {
     "year-length": "days_of_year",
     "work-named": "work_of_name",
     "calendars-agree": "calendars_agree_lem",
+    "line-ok": "line_out_ok",
 }
 
 

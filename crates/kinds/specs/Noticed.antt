@@ -44,8 +44,8 @@ pub letter_small : (w : words.Word) (i : ℕ) → slice_index w.letters i ≤ 90
 letter_small w i = front_small w.letters (w.spelled ∙ sym w.long) i
 
 -- the fields of a notice make it again
-pub line_ok : (v : lines.LineOut) → line_out_from v.line v.day ≡ Ok (LineOut v)
-line_ok v = rw (le_yes 1 v.line v.line_ok.0, le_yes v.line 999 v.line_ok.1, le_yes v.day 36524 v.day_ok)
+pub line_out_ok : (v : lines.LineOut) → line_out_from v.line v.day ≡ Ok (LineOut v)
+line_out_ok v = rw (le_yes 1 v.line v.line_ok.0, le_yes v.line 999 v.line_ok.1, le_yes v.day 36524 v.day_ok)
 
 word : (xs : List ℕ) → length xs ≡ 4 → front xs ≡ 4 → words.Word
 word xs n h = record { letters = xs; long = n; spelled = h }
@@ -94,7 +94,7 @@ notice_there : (v : Notice) → notice_of (notice_bytes v) ≡ Ok v
 notice_there (LineOut x) =
     let p : (x.line / 256 % 256) * 256 + x.line % 256 ≡ x.line = omega arith in
     let q : (x.day / 256 % 256) * 256 + x.day % 256 ≡ x.day = omega arith in
-    of_line (notice_bytes (LineOut x)) refl refl ∙ (λ i. line_out_from (p i) (q i)) ∙ line_ok x
+    of_line (notice_bytes (LineOut x)) refl refl ∙ (λ i. line_out_from (p i) (q i)) ∙ line_out_ok x
 notice_there (Word w) = of_word (3 ∷ w.letters) (notice_long (Word w)) refl ∙ word_ok w _ _ _ _ (spell_at 4 w.letters w.long)
 
 notice_small : (v : Notice) (i : ℕ) → slice_index (notice_bytes v) i < 256
