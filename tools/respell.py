@@ -30,7 +30,6 @@ BY_HAND = {
     "year-length": "days_of_year",
     "work-named": "work_of_name",
     "calendars-agree": "calendars_agree_lem",
-    "line-ok": "line_out_ok",
 }
 
 
