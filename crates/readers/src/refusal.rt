@@ -1,7 +1,7 @@
 // Why a sheet is turned away.
 ghost use Rattle.std.specs.Prelude.{◌≡◌, Some};
 ghost use Rattle.refusals.specs.Shown.{told};
-ghost use Rattle.readers.specs.Refused.{head_place, refusal_of};
+ghost use Rattle.readers.specs.Refused.{refusal_of};
 ghost use Rattle.readers.specs.Words.{words_of, sheet_refusal_text};
 ghost use Rattle.rules.specs.Refusals.{plain, sheet};
 
@@ -11,7 +11,7 @@ use std::fmt;
 
 mod words;
 
-// The bytes of a sheet's head, in their order.
+// The bytes of a sheet's head, numbered by their places.
 #[derive(Clone, Copy, PartialEq, Eq, Debug)]
 pub enum HeadByte {
     Version,
@@ -59,21 +59,6 @@ pub enum SheetRefusal {
     BeyondOwnRow { origin: u8 },
 }
 
-impl HeadByte {
-    // Its place in the sheet.
-    fn place(self) -> usize
-        ensures { result ≡ head_place self }
-    {
-        match self {
-            HeadByte::Version => 0,
-            HeadByte::Sites => 1,
-            HeadByte::Writer => 2,
-            HeadByte::Addressee => 3,
-            HeadByte::Kind => 4,
-        }
-    }
-}
-
 // A refusal of the sheet's layer.
 fn by_sheet(number: u8, carried: usize) -> Refusal
     ensures { result ≡ told (plain number carried sheet) }
@@ -93,10 +78,11 @@ impl Ground for SheetRefusal {
     fn refusal(self) -> Refusal {
         match self {
             SheetRefusal::EndsEarly { length } => by_sheet(4, length),
-            SheetRefusal::Head(byte) => by_sheet(5, byte.place()),
+            SheetRefusal::Head(byte) => by_sheet(5, byte as usize),
             SheetRefusal::Table { place, .. } => by_sheet(6, place),
-            SheetRefusal::Record { place, .. } => by_sheet(7, place),
-            SheetRefusal::Entry { place, .. } => by_sheet(7, place),
+            SheetRefusal::Record { place, .. } | SheetRefusal::Entry { place, .. } => by_sheet(
+                7, place,
+            ),
             SheetRefusal::BytesBehind { place } => by_sheet(8, place),
             SheetRefusal::BeyondOwnRow { origin } => Refusal {
                 number: 20,
