@@ -288,7 +288,7 @@ fn answer_stamp(heap: Global, rest: &[u8]) -> Result<String, AllocError>
     if !is_end(rest) {
         return Usage::Stamp.say(heap);
     }
-    match Stamp::read(text) {
+    match Stamp::try_from(text) {
         Ok(stamp) => {
             let site = stamp.site();
             let number = stamp.number();
