@@ -3,7 +3,7 @@ ghost use Rattle.std.specs.Prelude.{◌≡◌};
 ghost use Rattle.rules.specs.Kinds.{LawfulKind};
 ghost use Rattle.kinds.specs.Formats.{Format, rule_of, padded};
 
-use crate::refusal::EntryRefusal;
+use crate::refusal::{EntryRefusal, Field};
 
 // A kind of entry; `Self` is the type of its values.
 pub trait Kind: Sized {
@@ -32,4 +32,13 @@ pub trait Kind: Sized {
 
     // values and lawful byte strings match one to one
     ghost lawful: { LawfulKind (rule_of format) };
+}
+
+impl Field {
+    // The refusal of an entry for this field, whose first byte stands at a place.
+    pub(crate) fn bad_at(self, place: usize) -> EntryRefusal
+        ensures { result ≡ EntryRefusal.Field self place }
+    {
+        EntryRefusal::Field { field: self, place }
+    }
 }

@@ -1,6 +1,7 @@
 // Notices: five bytes, code 2.
-ghost use Rattle.std.specs.Prelude.{◌≡◌, Some};
-ghost use Rattle.kinds.specs.Letters.{front};
+ghost use Rattle.std.specs.Prelude.{◌≡◌, not, Some};
+ghost use Rattle.std.specs.Char.{is_ascii_uppercase};
+ghost use Rattle.std.specs.List.{position};
 ghost use Rattle.kinds.specs.Notices.{line_out_from, word_from, notice_text, notices};
 ghost use Rattle.kinds.specs.Noticed.{notices_lawful};
 
@@ -10,16 +11,11 @@ use crate::refusal::{EntryRefusal, Field};
 use dates::date_of;
 use std::fmt;
 
-// How many letters stand in front.
-fn letters_in_front(bytes: &[u8]) -> usize
-    ensures { result ≡ front bytes.now }
+// The place of the first byte that is no letter.
+fn first_no_letter(bytes: &[u8]) -> Option<usize>
+    ensures { result ≡ position (λ x. not (is_ascii_uppercase x)) bytes.now }
 {
-    for (i, b) in bytes.iter().enumerate() {
-        if *b < b'A' || *b > b'Z' {
-            return i;
-        }
-    }
-    bytes.len()
+    bytes.iter().position(|b| !b.is_ascii_uppercase())
 }
 
 impl Notice {
@@ -27,17 +23,11 @@ impl Notice {
     pub fn line_out(line: u16, day: u16) -> Result<Notice, EntryRefusal>
         ensures { result ≡ line_out_from line day }
     {
-        if line < 1 || line > 999 {
-            return Err(EntryRefusal::Field {
-                field: Field::Line,
-                place: 1,
-            });
+        if !(1..=999).contains(&line) {
+            return Err(Field::Line.bad_at(1));
         }
         if day > 36_524 {
-            return Err(EntryRefusal::Field {
-                field: Field::Day,
-                place: 3,
-            });
+            return Err(Field::Day.bad_at(3));
         }
         Ok(Notice::LineOut(LineOut { line, day }))
     }
@@ -47,14 +37,10 @@ impl Notice {
         ensures { result ≡ word_from a b c d }
     {
         let letters = [a, b, c, d];
-        let n = letters_in_front(&letters);
-        if n < 4 {
-            return Err(EntryRefusal::Field {
-                field: Field::Letter,
-                place: n + 1,
-            });
+        match first_no_letter(&letters) {
+            Some(n) => Err(Field::Letter.bad_at(n + 1)),
+            None => Ok(Notice::Word(Word { letters })),
         }
-        Ok(Notice::Word(Word { letters }))
     }
 }
 
@@ -85,10 +71,7 @@ impl Kind for Notice {
         match *tag {
             1 => Notice::line_out(u16::from_be_bytes([*a, *b]), u16::from_be_bytes([*c, *d])),
             3 => Notice::word(*a, *b, *c, *d),
-            _ => Err(EntryRefusal::Field {
-                field: Field::Tag,
-                place: 0,
-            }),
+            _ => Err(Field::Tag.bad_at(0)),
         }
     }
 
