@@ -92,27 +92,22 @@ impl Kind for Notice {
     }
 }
 
+impl Word {
+    // The letters as a text.
+    fn as_str(&self) -> &str
+        ensures { result.now ≡ self.now.letters }
+    {
+        str::from_utf8(&self.letters).unwrap()
+    }
+}
+
 impl fmt::Display for Notice {
     ghost output = { λ n. Some (notice_text n) };
 
     fn fmt<W: fmt::Write>(&self, f: &mut fmt::Formatter<W>) -> fmt::Result {
         match self {
-            Notice::LineOut(x) => {
-                let line = x.line;
-                let day = date_of(x.day);
-                write!(f, "line {line} out on {day}")
-            }
-            Notice::Word(w) => {
-                let [a, b, c, d] = w.letters;
-                write!(
-                    f,
-                    "word {}{}{}{}",
-                    char::from(a),
-                    char::from(b),
-                    char::from(c),
-                    char::from(d)
-                )
-            }
+            Notice::LineOut(x) => write!(f, "line {} out on {}", x.line, date_of(x.day)),
+            Notice::Word(w) => write!(f, "word {}", w.as_str()),
         }
     }
 }
