@@ -1,5 +1,5 @@
 // What a kind of entry is.
-ghost use Rattle.std.specs.Prelude.{◌≡◌};
+ghost use Rattle.std.specs.Prelude.{◌≡◌, ℕ};
 ghost use Rattle.rules.specs.Kinds.{LawfulKind};
 ghost use Rattle.kinds.specs.Formats.{Format, rule_of, padded};
 
@@ -11,12 +11,14 @@ pub trait Kind: Sized {
     ghost format: { Format Self };
 
     // The code byte.
-    fn code() -> u8
-        ensures { result ≡ format.code };
+    const CODE: u8;
+
+    ghost CODE: { ℕ };
 
     // How many bytes an entry has.
-    fn width() -> usize
-        ensures { result ≡ format.width };
+    const WIDTH: usize;
+
+    ghost WIDTH: { ℕ };
 
     // One of the values.
     fn sample() -> Self
@@ -32,6 +34,11 @@ pub trait Kind: Sized {
 
     // values and lawful byte strings match one to one
     ghost lawful: { LawfulKind (rule_of format) };
+
+    // the constants are those of the format
+    ghost code_agrees: { CODE ≡ format.code };
+
+    ghost width_agrees: { WIDTH ≡ format.width };
 }
 
 impl Field {

@@ -1,5 +1,5 @@
 // Bookings: eight bytes, code 1.
-ghost use Rattle.std.specs.Prelude.{◌≡◌, Some};
+ghost use Rattle.std.specs.Prelude.{◌≡◌, refl, Some};
 ghost use Rattle.kinds.specs.Bookings.{work_byte, work_of, work_text, booking_from, booking_text, bookings};
 ghost use Rattle.kinds.specs.Booked.{bookings_lawful};
 
@@ -98,13 +98,17 @@ impl Kind for Booking {
 
     ghost lawful = { bookings_lawful };
 
-    fn code() -> u8 {
-        1
-    }
+    ghost code_agrees = { refl };
 
-    fn width() -> usize {
-        8
-    }
+    ghost width_agrees = { refl };
+
+    const CODE: u8 = 1;
+
+    ghost CODE = { 1 };
+
+    const WIDTH: usize = 8;
+
+    ghost WIDTH = { 8 };
 
     fn sample() -> Booking {
         Booking {
@@ -120,7 +124,7 @@ impl Kind for Booking {
         let [l0, l1, f0, f1, t0, t1, work, crew] = bytes else {
             return Err(EntryRefusal::Length {
                 length: bytes.len(),
-                width: 8,
+                width: Self::WIDTH,
             });
         };
         let line = u16::from_be_bytes([*l0, *l1]);

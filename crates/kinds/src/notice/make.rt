@@ -1,5 +1,5 @@
 // Notices: five bytes, code 2.
-ghost use Rattle.std.specs.Prelude.{◌≡◌, not, Some};
+ghost use Rattle.std.specs.Prelude.{◌≡◌, refl, not, Some};
 ghost use Rattle.std.specs.Char.{is_ascii_uppercase};
 ghost use Rattle.std.specs.List.{position};
 ghost use Rattle.kinds.specs.Notices.{line_out_from, word_from, notice_text, notices};
@@ -49,13 +49,17 @@ impl Kind for Notice {
 
     ghost lawful = { notices_lawful };
 
-    fn code() -> u8 {
-        2
-    }
+    ghost code_agrees = { refl };
 
-    fn width() -> usize {
-        5
-    }
+    ghost width_agrees = { refl };
+
+    const CODE: u8 = 2;
+
+    ghost CODE = { 2 };
+
+    const WIDTH: usize = 5;
+
+    ghost WIDTH = { 5 };
 
     fn sample() -> Notice {
         Notice::LineOut(LineOut { line: 1, day: 0 })
@@ -65,7 +69,7 @@ impl Kind for Notice {
         let [tag, a, b, c, d] = bytes else {
             return Err(EntryRefusal::Length {
                 length: bytes.len(),
-                width: 5,
+                width: Self::WIDTH,
             });
         };
         match *tag {
