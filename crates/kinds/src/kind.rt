@@ -5,6 +5,12 @@ ghost use Rattle.kinds.specs.Formats.{Format, rule_of, padded};
 
 use crate::refusal::{EntryRefusal, Field};
 
+// The highest line; the lowest is 1.
+pub(crate) const LAST_LINE: u16 = 999;
+
+// The last day, 2099-12-31; the first is 0.
+pub(crate) const LAST_DAY: u16 = 36_524;
+
 // A kind of entry; `Self` is the type of its values.
 pub trait Kind: Sized {
     // the code byte, the width, the bytes of each value, and what bytes stand for

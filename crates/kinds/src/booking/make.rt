@@ -4,7 +4,7 @@ ghost use Rattle.kinds.specs.Bookings.{work_byte, work_of, work_text, booking_fr
 ghost use Rattle.kinds.specs.Booked.{bookings_lawful};
 
 use crate::booking::{Booking, Work};
-use crate::kind::Kind;
+use crate::kind::{Kind, LAST_DAY, LAST_LINE};
 use crate::refusal::{EntryRefusal, Field};
 use dates::date_of;
 use std::fmt;
@@ -19,7 +19,7 @@ impl From<Work> for u8 {
 }
 
 impl Work {
-    // The work that a byte stands for.
+    // The work that a byte stands for. An `Option`, and no `TryFrom`: `of_fields` refuses the work in its turn, after the days.
     fn from_byte(byte: u8) -> Option<Work>
         ensures { result ≡ work_of byte }
     {
@@ -55,13 +55,13 @@ impl Booking {
     ) -> Result<Booking, EntryRefusal>
         ensures { result ≡ booking_from line first last work crew }
     {
-        if !(1..=999).contains(&line) {
+        if !(1..=LAST_LINE).contains(&line) {
             return Err(Field::Line.bad_at(0));
         }
-        if first > 36_524 {
+        if first > LAST_DAY {
             return Err(Field::FirstDay.bad_at(2));
         }
-        if last < first || last > 36_524 {
+        if last < first || last > LAST_DAY {
             return Err(Field::LastDay.bad_at(4));
         }
         let Some(work) = work else {

@@ -5,7 +5,7 @@ ghost use Rattle.std.specs.List.{position};
 ghost use Rattle.kinds.specs.Notices.{line_out_from, word_from, notice_text, notices};
 ghost use Rattle.kinds.specs.Noticed.{notices_lawful};
 
-use crate::kind::Kind;
+use crate::kind::{Kind, LAST_DAY, LAST_LINE};
 use crate::notice::{LineOut, Notice, Word};
 use crate::refusal::{EntryRefusal, Field};
 use dates::date_of;
@@ -23,10 +23,10 @@ impl Notice {
     pub fn line_out(line: u16, day: u16) -> Result<Notice, EntryRefusal>
         ensures { result ≡ line_out_from line day }
     {
-        if !(1..=999).contains(&line) {
+        if !(1..=LAST_LINE).contains(&line) {
             return Err(Field::Line.bad_at(1));
         }
-        if day > 36_524 {
+        if day > LAST_DAY {
             return Err(Field::Day.bad_at(3));
         }
         Ok(Notice::LineOut(LineOut { line, day }))
