@@ -116,10 +116,16 @@ mod stamps {
         let a = Stamp::new(1, 1_000_000)?;
         let b = Stamp::new(2, 1)?;
         let c = Stamp::new(2, 2)?;
+        assert!(rt; a < b && b < c && a < c);
         assert!(rt; a.is_below(b) && b.is_below(c) && a.is_below(c));
         assert!(rt; !b.is_below(a) && !c.is_below(b) && !b.is_below(b));
         assert!(rt; b.is_same(b) && !b.is_same(c) && !a.is_same(b));
         Ok(())
+    }
+
+    // The stamp that a text writes.
+    fn read(text: &[u8]) -> Result<Stamp, StampTextRefusal> {
+        Stamp::try_from(text)
     }
 
     #[test]
@@ -127,19 +133,18 @@ mod stamps {
         let heap = rt.alloc();
         let text = format!(in heap; "{}", Stamp::new(3, 1)?)?;
         assert_eq!(rt; text.as_str(), "3.1");
-        let read = Stamp::read(b"3.1")?;
-        assert!(rt; read.is_same(Stamp::new(3, 1)?));
-        assert_eq!(rt; Stamp::read(b"31").err(), Some(StampTextRefusal::Form));
-        assert_eq!(rt; Stamp::read(b".1").err(), Some(StampTextRefusal::Form));
-        assert_eq!(rt; Stamp::read(b"3.").err(), Some(StampTextRefusal::Form));
-        assert_eq!(rt; Stamp::read(b"3.1.1").err(), Some(StampTextRefusal::Form));
+        assert_eq!(rt; read(b"3.1")?, Stamp::new(3, 1)?);
+        assert_eq!(rt; read(b"31"), Err(StampTextRefusal::Form));
+        assert_eq!(rt; read(b".1"), Err(StampTextRefusal::Form));
+        assert_eq!(rt; read(b"3."), Err(StampTextRefusal::Form));
+        assert_eq!(rt; read(b"3.1.1"), Err(StampTextRefusal::Form));
         assert_eq!(rt;
-            Stamp::read(b"256.1").err(),
-            Some(StampTextRefusal::Range(StampRefusal::Site))
+            read(b"256.1"),
+            Err(StampTextRefusal::Range(StampRefusal::Site))
         );
         assert_eq!(rt;
-            Stamp::read(b"1.4294967297").err(),
-            Some(StampTextRefusal::Range(StampRefusal::Number))
+            read(b"1.4294967297"),
+            Err(StampTextRefusal::Range(StampRefusal::Number))
         );
         Ok(())
     }

@@ -196,7 +196,7 @@ fn digits_of<K: Kind>(heap: Global, value: &K) -> Result<String, AllocError>
     ensures { IfOk result (λ s. string_bytes s ≡ hex_text_of (K.Kind.format.encoded value.now)) }
 {
     let bytes = value.encode();
-    hex_text(heap, &bytes[0..K::width()])
+    hex_text(heap, &bytes[0..K::WIDTH])
 }
 
 // What is said of an entry whose bytes are asked for.
@@ -288,7 +288,7 @@ fn answer_stamp(heap: Global, rest: &[u8]) -> Result<String, AllocError>
     if !is_end(rest) {
         return Usage::Stamp.say(heap);
     }
-    match Stamp::read(text) {
+    match Stamp::try_from(text) {
         Ok(stamp) => {
             let site = stamp.site();
             let number = stamp.number();

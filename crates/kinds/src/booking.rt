@@ -5,13 +5,13 @@ pub mod make;
 // What is done on a line.
 #[derive(Clone, Copy, PartialEq, Eq, Debug)]
 pub enum Work {
-    Retrofit,
-    Trial,
-    Freeze,
+    Retrofit = 1,
+    Trial = 2,
+    Freeze = 3,
 }
 
 // A booking of a line, 1 to 999, from a first day to a last, each 0 to 36,524 counted from 2000-01-01, by a crew, 0 to 99.
-#[derive(Clone, Copy)]
+#[derive(Clone, Copy, PartialEq, Eq, Debug)]
 pub struct Booking {
     pub line: u16,
     pub first: u16,

@@ -1,9 +1,15 @@
 // What a kind of entry is.
-ghost use Rattle.std.specs.Prelude.{◌≡◌};
+ghost use Rattle.std.specs.Prelude.{◌≡◌, ℕ};
 ghost use Rattle.rules.specs.Kinds.{LawfulKind};
 ghost use Rattle.kinds.specs.Formats.{Format, rule_of, padded};
 
-use crate::refusal::EntryRefusal;
+use crate::refusal::{EntryRefusal, Field};
+
+// The highest line; the lowest is 1.
+pub(crate) const LAST_LINE: u16 = 999;
+
+// The last day, 2099-12-31; the first is 0.
+pub(crate) const LAST_DAY: u16 = 36_524;
 
 // A kind of entry; `Self` is the type of its values.
 pub trait Kind: Sized {
@@ -11,12 +17,14 @@ pub trait Kind: Sized {
     ghost format: { Format Self };
 
     // The code byte.
-    fn code() -> u8
-        ensures { result ≡ format.code };
+    const CODE: u8;
+
+    ghost CODE: { ℕ };
 
     // How many bytes an entry has.
-    fn width() -> usize
-        ensures { result ≡ format.width };
+    const WIDTH: usize;
+
+    ghost WIDTH: { ℕ };
 
     // One of the values.
     fn sample() -> Self
@@ -32,4 +40,18 @@ pub trait Kind: Sized {
 
     // values and lawful byte strings match one to one
     ghost lawful: { LawfulKind (rule_of format) };
+
+    // the constants are those of the format
+    ghost code_agrees: { CODE ≡ format.code };
+
+    ghost width_agrees: { WIDTH ≡ format.width };
+}
+
+impl Field {
+    // The refusal of an entry for this field, whose first byte stands at a place.
+    pub(crate) fn bad_at(self, place: usize) -> EntryRefusal
+        ensures { result ≡ EntryRefusal.Field self place }
+    {
+        EntryRefusal::Field { field: self, place }
+    }
 }

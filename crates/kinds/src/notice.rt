@@ -4,7 +4,7 @@ ghost use Rattle.kinds.specs.Letters.{front};
 pub mod make;
 
 // A line, 1 to 999, that is out on a day, 0 to 36,524 counted from 2000-01-01.
-#[derive(Clone, Copy)]
+#[derive(Clone, Copy, PartialEq, Eq, Debug)]
 pub struct LineOut {
     pub line: u16,
     pub day: u16,
@@ -13,7 +13,7 @@ pub struct LineOut {
 }
 
 // A word of four letters A to Z.
-#[derive(Clone, Copy)]
+#[derive(Clone, Copy, PartialEq, Eq, Debug)]
 pub struct Word {
     pub letters: [u8; 4],
     ghost long: { length letters ≡ 4 },
@@ -21,7 +21,7 @@ pub struct Word {
 }
 
 // What a notice says.
-#[derive(Clone, Copy)]
+#[derive(Clone, Copy, PartialEq, Eq, Debug)]
 pub enum Notice {
     LineOut(LineOut),
     Word(Word),

@@ -154,7 +154,7 @@ fn judge<V: Kind + Copy>(
 ) -> Result<Checked, SheetRefusal>
     ensures { checked_shown result ≡ sheet_judged V.Kind.format seat.sites seat.own (option_map in_row own) bytes.now }
 {
-    let writer = read_head(bytes, seat, V::code())?;
+    let writer = read_head(bytes, seat, V::CODE)?;
     let sites = seat.sites as usize;
     if bytes.len() < 5 + 4 * (sites * sites) {
         return Err(SheetRefusal::EndsEarly {

@@ -1,28 +1,26 @@
 // Bookings: eight bytes, code 1.
-ghost use Rattle.std.specs.Prelude.{◌≡◌, Some};
+ghost use Rattle.std.specs.Prelude.{◌≡◌, refl, Some};
 ghost use Rattle.kinds.specs.Bookings.{work_byte, work_of, work_text, booking_from, booking_text, bookings};
 ghost use Rattle.kinds.specs.Booked.{bookings_lawful};
 
 use crate::booking::{Booking, Work};
-use crate::kind::Kind;
+use crate::kind::{Kind, LAST_DAY, LAST_LINE};
 use crate::refusal::{EntryRefusal, Field};
 use dates::date_of;
 use std::fmt;
 
-impl Work {
-    // The byte that stands for the work.
-    fn byte(self) -> u8
-        ensures { result ≡ work_byte self }
-    {
-        match self {
-            Work::Retrofit => 1,
-            Work::Trial => 2,
-            Work::Freeze => 3,
-        }
-    }
+impl From<Work> for u8 {
+    ghost from_gives = { λ work byte. byte ≡ work_byte work };
 
-    // The work that a byte stands for.
-    fn of_byte(byte: u8) -> Option<Work>
+    // The byte that stands for the work.
+    fn from(work: Work) -> u8 {
+        work as u8
+    }
+}
+
+impl Work {
+    // The work that a byte stands for. An `Option`, and no `TryFrom`: `of_fields` refuses the work in its turn, after the days.
+    fn from_byte(byte: u8) -> Option<Work>
         ensures { result ≡ work_of byte }
     {
         match byte {
@@ -46,13 +44,6 @@ impl fmt::Display for Work {
     }
 }
 
-// Why a field is refused.
-fn bad(field: Field, place: usize) -> EntryRefusal
-    ensures { result ≡ EntryRefusal.Field field place }
-{
-    EntryRefusal::Field { field, place }
-}
-
 impl Booking {
     // The booking of these fields, in their order; no work is a bad one.
     fn of_fields(
@@ -64,20 +55,20 @@ impl Booking {
     ) -> Result<Booking, EntryRefusal>
         ensures { result ≡ booking_from line first last work crew }
     {
-        if line < 1 || line > 999 {
-            return Err(bad(Field::Line, 0));
+        if !(1..=LAST_LINE).contains(&line) {
+            return Err(Field::Line.bad_at(0));
         }
-        if first > 36_524 {
-            return Err(bad(Field::FirstDay, 2));
+        if first > LAST_DAY {
+            return Err(Field::FirstDay.bad_at(2));
         }
-        if last < first || last > 36_524 {
-            return Err(bad(Field::LastDay, 4));
+        if last < first || last > LAST_DAY {
+            return Err(Field::LastDay.bad_at(4));
         }
         let Some(work) = work else {
-            return Err(bad(Field::Work, 6));
+            return Err(Field::Work.bad_at(6));
         };
         if crew > 99 {
-            return Err(bad(Field::Crew, 7));
+            return Err(Field::Crew.bad_at(7));
         }
         Ok(Booking {
             line,
@@ -107,13 +98,17 @@ impl Kind for Booking {
 
     ghost lawful = { bookings_lawful };
 
-    fn code() -> u8 {
-        1
-    }
+    ghost code_agrees = { refl };
 
-    fn width() -> usize {
-        8
-    }
+    ghost width_agrees = { refl };
+
+    const CODE: u8 = 1;
+
+    ghost CODE = { 1 };
+
+    const WIDTH: usize = 8;
+
+    ghost WIDTH = { 8 };
 
     fn sample() -> Booking {
         Booking {
@@ -129,37 +124,23 @@ impl Kind for Booking {
         let [l0, l1, f0, f1, t0, t1, work, crew] = bytes else {
             return Err(EntryRefusal::Length {
                 length: bytes.len(),
-                width: 8,
+                width: Self::WIDTH,
             });
         };
         let line = u16::from_be_bytes([*l0, *l1]);
         let first = u16::from_be_bytes([*f0, *f1]);
         let last = u16::from_be_bytes([*t0, *t1]);
-        Booking::of_fields(line, first, last, Work::of_byte(*work), *crew)
+        Booking::of_fields(line, first, last, Work::from_byte(*work), *crew)
     }
 
     fn encode(&self) -> [u8; 16] {
-        let [l0, l1] = self.line.to_be_bytes();
-        let [f0, f1] = self.first.to_be_bytes();
-        let [t0, t1] = self.last.to_be_bytes();
-        [
-            l0,
-            l1,
-            f0,
-            f1,
-            t0,
-            t1,
-            self.work.byte(),
-            self.crew,
-            0,
-            0,
-            0,
-            0,
-            0,
-            0,
-            0,
-            0,
-        ]
+        let mut bytes = [0; 16];
+        bytes[0..2].copy_from_slice(&self.line.to_be_bytes());
+        bytes[2..4].copy_from_slice(&self.first.to_be_bytes());
+        bytes[4..6].copy_from_slice(&self.last.to_be_bytes());
+        bytes[6] = u8::from(self.work);
+        bytes[7] = self.crew;
+        bytes
     }
 }
 
@@ -167,11 +148,12 @@ impl fmt::Display for Booking {
     ghost output = { λ b. Some (booking_text b) };
 
     fn fmt<W: fmt::Write>(&self, f: &mut fmt::Formatter<W>) -> fmt::Result {
-        let line = self.line;
         let first = date_of(self.first);
         let last = date_of(self.last);
-        let work = self.work;
-        let crew = self.crew;
-        write!(f, "line {line} from {first} to {last}, {work}, crew {crew}")
+        write!(
+            f,
+            "line {} from {first} to {last}, {}, crew {}",
+            self.line, self.work, self.crew
+        )
     }
 }

@@ -1,25 +1,21 @@
 // Notices: five bytes, code 2.
-ghost use Rattle.std.specs.Prelude.{◌≡◌, Some};
-ghost use Rattle.kinds.specs.Letters.{front};
+ghost use Rattle.std.specs.Prelude.{◌≡◌, refl, not, Some};
+ghost use Rattle.std.specs.Char.{is_ascii_uppercase};
+ghost use Rattle.std.specs.List.{position};
 ghost use Rattle.kinds.specs.Notices.{line_out_from, word_from, notice_text, notices};
 ghost use Rattle.kinds.specs.Noticed.{notices_lawful};
 
-use crate::kind::Kind;
+use crate::kind::{Kind, LAST_DAY, LAST_LINE};
 use crate::notice::{LineOut, Notice, Word};
 use crate::refusal::{EntryRefusal, Field};
 use dates::date_of;
 use std::fmt;
 
-// How many letters stand in front.
-fn letters_in_front(bytes: &[u8]) -> usize
-    ensures { result ≡ front bytes.now }
+// The place of the first byte that is no letter.
+fn first_no_letter(bytes: &[u8]) -> Option<usize>
+    ensures { result ≡ position (λ x. not (is_ascii_uppercase x)) bytes.now }
 {
-    for (i, b) in bytes.iter().enumerate() {
-        if *b < b'A' || *b > b'Z' {
-            return i;
-        }
-    }
-    bytes.len()
+    bytes.iter().position(|b| !b.is_ascii_uppercase())
 }
 
 impl Notice {
@@ -27,17 +23,11 @@ impl Notice {
     pub fn line_out(line: u16, day: u16) -> Result<Notice, EntryRefusal>
         ensures { result ≡ line_out_from line day }
     {
-        if line < 1 || line > 999 {
-            return Err(EntryRefusal::Field {
-                field: Field::Line,
-                place: 1,
-            });
+        if !(1..=LAST_LINE).contains(&line) {
+            return Err(Field::Line.bad_at(1));
         }
-        if day > 36_524 {
-            return Err(EntryRefusal::Field {
-                field: Field::Day,
-                place: 3,
-            });
+        if day > LAST_DAY {
+            return Err(Field::Day.bad_at(3));
         }
         Ok(Notice::LineOut(LineOut { line, day }))
     }
@@ -47,14 +37,10 @@ impl Notice {
         ensures { result ≡ word_from a b c d }
     {
         let letters = [a, b, c, d];
-        let n = letters_in_front(&letters);
-        if n < 4 {
-            return Err(EntryRefusal::Field {
-                field: Field::Letter,
-                place: n + 1,
-            });
+        match first_no_letter(&letters) {
+            Some(n) => Err(Field::Letter.bad_at(n + 1)),
+            None => Ok(Notice::Word(Word { letters })),
         }
-        Ok(Notice::Word(Word { letters }))
     }
 }
 
@@ -63,13 +49,17 @@ impl Kind for Notice {
 
     ghost lawful = { notices_lawful };
 
-    fn code() -> u8 {
-        2
-    }
+    ghost code_agrees = { refl };
 
-    fn width() -> usize {
-        5
-    }
+    ghost width_agrees = { refl };
+
+    const CODE: u8 = 2;
+
+    ghost CODE = { 2 };
+
+    const WIDTH: usize = 5;
+
+    ghost WIDTH = { 5 };
 
     fn sample() -> Notice {
         Notice::LineOut(LineOut { line: 1, day: 0 })
@@ -79,16 +69,13 @@ impl Kind for Notice {
         let [tag, a, b, c, d] = bytes else {
             return Err(EntryRefusal::Length {
                 length: bytes.len(),
-                width: 5,
+                width: Self::WIDTH,
             });
         };
         match *tag {
             1 => Notice::line_out(u16::from_be_bytes([*a, *b]), u16::from_be_bytes([*c, *d])),
             3 => Notice::word(*a, *b, *c, *d),
-            _ => Err(EntryRefusal::Field {
-                field: Field::Tag,
-                place: 0,
-            }),
+            _ => Err(Field::Tag.bad_at(0)),
         }
     }
 
@@ -109,27 +96,22 @@ impl Kind for Notice {
     }
 }
 
+impl Word {
+    // The letters as a text.
+    fn as_str(&self) -> &str
+        ensures { result.now ≡ self.now.letters }
+    {
+        str::from_utf8(&self.letters).unwrap()
+    }
+}
+
 impl fmt::Display for Notice {
     ghost output = { λ n. Some (notice_text n) };
 
     fn fmt<W: fmt::Write>(&self, f: &mut fmt::Formatter<W>) -> fmt::Result {
         match self {
-            Notice::LineOut(x) => {
-                let line = x.line;
-                let day = date_of(x.day);
-                write!(f, "line {line} out on {day}")
-            }
-            Notice::Word(w) => {
-                let [a, b, c, d] = w.letters;
-                write!(
-                    f,
-                    "word {}{}{}{}",
-                    char::from(a),
-                    char::from(b),
-                    char::from(c),
-                    char::from(d)
-                )
-            }
+            Notice::LineOut(x) => write!(f, "line {} out on {}", x.line, date_of(x.day)),
+            Notice::Word(w) => write!(f, "word {}", w.as_str()),
         }
     }
 }

@@ -14,5 +14,5 @@ pub returns : goal.returns
 returns g c =
     let f = g.K.Kind.format in
     subst (λ bs. IfOk c.hex_text.result (λ s. string_bytes s ≡ hex_text_of bs))
-    (front (f.encoded c.args.value.now) _ f.width _ c.encode-bytes.ensures (g.met.K.Kind.lawful.long c.args.value.now) c.width.ensures)
+    (front (f.encoded c.args.value.now) _ f.width _ c.encode-bytes.ensures (g.met.K.Kind.lawful.long c.args.value.now) (c.WIDTH.ensures ∙ g.met.K.Kind.width_agrees))
     c.hex_text.ensures

@@ -18,7 +18,7 @@ returns-in_err-check_table g c =
     let T = number c.read_table-table.result in
     let p = err_from_is_err_and c.from_residual-in_err-check_table.result c.from_residual-in_err-check_table.ensures.1 in
     rw (p.1, p.2)
-    (bad_table f N i own bs k c.code.result T c.read_table-table.ensures c.code.ensures c.in_ok-writer.ensures (omega arith)
+    (bad_table f N i own bs k c.CODE.result T c.read_table-table.ensures (c.CODE.ensures ∙ g.met.V.Kind.code_agrees) c.in_ok-writer.ensures (omega arith)
     c.in_err-check_table.field-0.0 c.in_err-check_table.ensures)
 
 pub returns-in_err-check_own : goal.returns-in_err-check_own
@@ -32,7 +32,7 @@ returns-in_err-check_own g c =
     let T = number c.read_table-table.result in
     let p = err_from_is_err_and c.from_residual-in_err-check_own.result c.from_residual-in_err-check_own.ensures.1 in
     rw (p.1, p.2)
-    (bad_own f N i own bs k c.code.result T c.read_table-table.ensures c.code.ensures c.in_ok-writer.ensures (omega arith)
+    (bad_own f N i own bs k c.CODE.result T c.read_table-table.ensures (c.CODE.ensures ∙ g.met.V.Kind.code_agrees) c.in_ok-writer.ensures (omega arith)
     c.in_ok-check_table.ensures c.in_err-check_own.field-0.0 c.in_err-check_own.ensures)
 
 pub returns-in_err-check : goal.returns-in_err-check
@@ -46,7 +46,7 @@ returns-in_err-check g c =
     let T = number c.read_table-table.result in
     let p = err_from_is_err_and c.from_residual-in_err-check.result c.from_residual-in_err-check.ensures.1 in
     rw (p.1, p.2)
-    (bad_records f N i own bs k c.code.result T c.read_table-table.ensures c.code.ensures c.in_ok-writer.ensures (omega arith)
+    (bad_records f N i own bs k c.CODE.result T c.read_table-table.ensures (c.CODE.ensures ∙ g.met.V.Kind.code_agrees) c.in_ok-writer.ensures (omega arith)
     c.in_ok-check_table.ensures c.in_ok-check_own.ensures c.in_err-check.field-0.0 (c.in_err-check.ensures
     ∙ (λ j. records_judged f (c.new.ensures.seat j).sites (capped (c.new.ensures.known j)) (c.new.ensures.bytes j) (c.new.ensures.stamps j) (c.new.ensures.place j))))
 
@@ -59,7 +59,7 @@ returns g c =
     let bs = c.args.bytes.now in
     let k = c.in_ok-writer.writer in
     let T = number c.read_table-table.result in
-    all_good f N i own bs k c.code.result T c.read_table-table.ensures c.code.ensures c.in_ok-writer.ensures (omega arith)
+    all_good f N i own bs k c.CODE.result T c.read_table-table.ensures (c.CODE.ensures ∙ g.met.V.Kind.code_agrees) c.in_ok-writer.ensures (omega arith)
     c.in_ok-check_table.ensures c.in_ok-check_own.ensures
     (c.in_ok-check.ensures
     ∙ (λ j. records_judged f (c.new.ensures.seat j).sites (capped (c.new.ensures.known j)) (c.new.ensures.bytes j) (c.new.ensures.stamps j) (c.new.ensures.place j)))
