@@ -1,33 +1,39 @@
--- A text in two parts: a step of looking for the byte that parts them.
-use Rattle.std.proofs.Common.{◌≡◌, ℕ, ◌+◌, ◌<◌, cond, List, [], ◌∷◌, ◌++◌, length, get_or, take, drop, Some, None, Option, sym, refl, ap, ◌∙◌, append_assoc, append-nil, eq-eqb, ne_eqb}
-use Rattle.std.proofs.lemmas.List.{at_drop_more, take_more}
+-- A text in two parts, at the first place of a byte.
+use Rattle.std.proofs.Common.{◌≡◌, ℕ, suc, ◌+◌, Bool, true, false, cond, not, nat_lt, List, [], ◌∷◌, length, take, drop, Some, None, Option, ◌==◌, sym, refl, ap, ◌∙◌, arith}
+use Rattle.std.proofs.lemmas.Bool.Decides.{nat_tests}
+use Rattle.std.specs.List.{position, position_or_len}
+use Rattle.std.specs.Option.{option_map}
 use Rattle.text.specs.Splits.{Parts, with_front, split_at}
 
--- nothing before the first part
-pub front_none : (o : Option Parts) → with_front [] o ≡ o
-front_none None = refl
-front_none (Some p) = refl
+-- by the test of the first byte
+by_test : (b : Bool) (P : Bool → Type 0) → P true → P false → P b
+by_test true P x y = x
+by_test false P x y = y
 
--- one text before another
-pub front_more : (xs ys : List ℕ) (o : Option Parts) → with_front (xs ++ ys) o ≡ with_front xs (with_front ys o)
-front_more xs ys None = refl
-front_more xs ys (Some p) = ap (λ zs. Some (zs, p.1)) (append_assoc xs ys p.0)
+-- the first place in a text with a byte in front
+position_cons : (p : ℕ → Bool) (c : ℕ) (cs : List ℕ) → position p (c ∷ cs) ≡ cond (p c) (Some 0) (option_map suc (position p cs))
+position_cons p c cs =
+    let k = position_or_len p cs in
+    by_test (p c)
+    (λ b. cond (nat_lt (cond (not b) (1 + k) 0) (length (c ∷ cs))) (Some (cond (not b) (1 + k) 0)) None
+    ≡ cond b (Some 0) (option_map suc (cond (nat_lt k (length cs)) (Some k) None)))
+    (grind (arith, nat_tests)) (grind (arith, nat_tests))
 
-module _ (m : ℕ) (cs : List ℕ) (i : ℕ) (h : i < length cs) where
-  -- the byte at a place is not the one that is looked for
-  pub split_more : (get_or cs i 0 ≡ m → ⊥) → with_front (take (i + 1) cs) (split_at m (drop (i + 1) cs)) ≡ with_front (take i cs) (split_at m (drop i cs))
-  split_more n =
-      let c = get_or cs i 0 in
-      let rest = split_at m (drop (i + 1) cs) in
-      let e : split_at m (drop i cs) ≡ with_front (c ∷ []) rest =
-      at_drop_more (split_at m) cs i 0 h ∙ ap (λ b. cond b (Some ([], drop (i + 1) cs)) (with_front (c ∷ []) rest)) (ne_eqb c m n) in
-      ap (λ xs. with_front xs rest) (take_more cs i 0 h) ∙ front_more (take i cs) (c ∷ []) rest ∙ ap (with_front (take i cs)) (sym e)
+-- the two parts of a text at a place
+abbrev pub parts_at : List ℕ → ℕ → Parts
+parts_at cs i = (take i cs, drop (i + 1) cs)
 
-  -- it is
-  pub split_here : get_or cs i 0 ≡ m → Some (take i cs, drop (i + 1) cs) ≡ with_front (take i cs) (split_at m (drop i cs))
-  split_here n =
-      let c = get_or cs i 0 in
-      let rest = with_front (c ∷ []) (split_at m (drop (i + 1) cs)) in
-      let e : split_at m (drop i cs) ≡ Some ([], drop (i + 1) cs) =
-      at_drop_more (split_at m) cs i 0 h ∙ ap (λ b. cond b (Some ([], drop (i + 1) cs)) rest) (eq-eqb c m n) in
-      ap (λ xs. Some (xs, drop (i + 1) cs)) (sym (append-nil (take i cs))) ∙ ap (with_front (take i cs)) (sym e)
+front_more : (c : ℕ) (cs : List ℕ) (o : Option ℕ) →
+    with_front (c ∷ []) (option_map (parts_at cs) o) ≡ option_map (parts_at (c ∷ cs)) (option_map suc o)
+front_more c cs None = refl
+front_more c cs (Some i) = let e : suc (i + 1) ≡ suc i + 1 = omega arith in ap (λ n. Some (c ∷ take i cs, drop n (c ∷ cs))) e
+
+-- the parts are those at the first place of the byte
+pub split_is : (m : ℕ) (cs : List ℕ) → split_at m cs ≡ option_map (parts_at cs) (position (λ c. c == m) cs)
+split_is m [] = refl
+split_is m (c ∷ cs) =
+    let o = position (λ x. x == m) cs in
+    by_test (c == m)
+    (λ b. cond b (Some ([], cs)) (with_front (c ∷ []) (split_at m cs)) ≡ option_map (parts_at (c ∷ cs)) (cond b (Some 0) (option_map suc o))) refl
+    (ap (with_front (c ∷ [])) (split_is m cs) ∙ front_more c cs o)
+    ∙ ap (option_map (parts_at (c ∷ cs))) (sym (position_cons (λ x. x == m) c cs))
