@@ -1,28 +1,21 @@
 -- The first word and what stands behind it are the two parts of a text.
-use Rattle.std.proofs.Common.{◌≡◌, sym, ℕ, suc, ◌+◌, ◌≤◌, Bool, true, false, cond, not, List, [], ◌∷◌, length, take, drop, refl, ap, ◌∙◌, arith}
+use Rattle.std.proofs.Common.{◌≡◌, sym, ℕ, suc, ◌+◌, ◌≤◌, Bool, not, List, [], ◌∷◌, length, take, drop, refl, ap, ◌∙◌, arith}
 use Rattle.std.proofs.lemmas.List.Sums.{prefix_len-le-length}
+use Rattle.std.proofs.lemmas.Bool.{cond_both}
 use Rattle.std.proofs.lemmas.Bool.Decides.{nat_tests}
 use Rattle.std.proofs.lemmas.List.Recursion.{is_position_or_len}
 use Rattle.std.specs.List.{position, position_or_len}
 use Rattle.std.specs.Option.{unwrap_or}
 use Rattle.text.specs.Words.{blank, trimmed, front_word, past_word}
 
--- by the test of the first byte
-by_blank : (b : Bool) (P : Bool → Type 0) → P true → P false → P b
-by_blank true P x y = x
-by_blank false P x y = y
-
 pub word_front : (cs : List ℕ) → take (length (front_word cs)) cs ≡ front_word cs
 word_front [] = refl
 word_front (c ∷ cs) =
-    by_blank (blank c) (λ b. take (length (cond b [] (c ∷ front_word cs))) (c ∷ cs) ≡ cond b [] (c ∷ front_word cs)) refl
-    (ap (λ xs. c ∷ xs) (word_front cs))
+    cond_both (blank c) [] (c ∷ front_word cs) (λ xs. take (length xs) (c ∷ cs) ≡ xs) (λ _. refl) (λ _. ap (λ xs. c ∷ xs) (word_front cs))
 
 pub word_back : (cs : List ℕ) → drop (length (front_word cs)) cs ≡ past_word cs
 word_back [] = refl
-word_back (c ∷ cs) =
-    by_blank (blank c) (λ b. drop (length (cond b [] (c ∷ front_word cs))) (c ∷ cs) ≡ cond b (c ∷ cs) (past_word cs)) refl
-    (word_back cs)
+word_back (c ∷ cs) = grind (arith, word_back cs)
 
 -- the first place that passes, or the length where none does
 first_or_length : (p : ℕ → Bool) (cs : List ℕ) → unwrap_or (position p cs) (length cs) ≡ position_or_len p cs
@@ -34,7 +27,7 @@ word_end cs =
     first_or_length blank cs
     ∙ sym
     (is_position_or_len (λ xs. length (front_word xs)) blank refl
-    (λ x xs. by_blank (blank x) (λ b. length (cond b [] (x ∷ front_word xs)) ≡ cond b 0 (1 + length (front_word xs))) refl (omega arith)) cs)
+    (λ x xs. grind arith) cs)
 
 pub word_within : (cs : List ℕ) → length (front_word cs) ≤ length cs
 word_within cs = omega (arith, word_end cs, first_or_length blank cs, prefix_len-le-length (λ c. not (blank c)) cs)
@@ -47,6 +40,6 @@ trim_at cs = ap (λ n. drop n cs) (first_or_length (λ c. not (blank c)) cs) ∙
     from [] = refl
     from (c ∷ cs) =
         let k = position_or_len (λ x. not (blank x)) cs in
-        let e : 1 + k ≡ suc k = omega arith in
-        by_blank (blank c) (λ b. drop (cond (not (not b)) (1 + k) 0) (c ∷ cs) ≡ cond b (trimmed cs) (c ∷ cs)) (ap (λ n. drop n (c ∷ cs)) e ∙ from cs)
-        refl
+        let n : 1 + k ≡ suc k = omega arith in
+        let e : drop (1 + k) (c ∷ cs) ≡ drop k cs = ap (λ i. drop i (c ∷ cs)) n in
+        grind (arith, from cs)

@@ -1,6 +1,8 @@
 -- Bytes in hexadecimal digits are those of the crate hex, and what is written is read back.
-use Rattle.std.proofs.Common.{◌≡◌, ℕ, zero, suc, ◌+◌, ◌*◌, ◌/◌, ◌%◌, ◌<◌, List, [], ◌∷◌, length, slice_index, Some, None, Option, Ok, Err, Result, sym, refl, ap, ◌∙◌, arith, true, Bool, ◌==◌, ◌&&◌}
-use Rattle.std.proofs.lemmas.Bool.Decides.{nat_tests, Decides-eqb, Decides-below_and}
+use Rattle.std.proofs.Common.{◌≡◌, ℕ, suc, ◌+◌, ◌*◌, ◌/◌, ◌%◌, ◌<◌, List, [], ◌∷◌, length, slice_index, Some, None, Option, Ok, Err, Result, sym, refl, ap, ◌∙◌, arith, true, ◌==◌}
+use borrow.Author.Tests.{eqb-true}
+use Rattle.std.proofs.lemmas.Bool.{agree_below_at}
+use Rattle.std.proofs.lemmas.Bool.Decides.{nat_tests}
 use Rattle.std.specs.Result.{result_ok}
 use Rattle.hex.specs.Hex.{IsBytes, decode_of, decode_pairs, digit_or_error, hex_digit_value, encode_upper, encode_with, upper_digits, ◌>>=◌}
 use Rattle.hex.specs.declared.error.FromHexError.{FromHexError}
@@ -40,17 +42,8 @@ odd_read (c ∷ d ∷ cs) h = ap (led (paired (hex_value c) (hex_value d))) (odd
 pub read_is : (cs : List ℕ) → hex_bytes_of cs ≡ result_ok (decode_of cs)
 read_is cs = let e = pairs_read 0 cs in grind (arith, nat_tests, odd_read cs)
 
--- the first n digits are the same
-same_digits : ℕ → Bool
-same_digits zero = true
-same_digits (suc n) = slice_index upper_digits n == hex_digit n && same_digits n
-
 digit_is : (n : ℕ) → n < 16 → slice_index upper_digits n ≡ hex_digit n
-unfolding same_digits
-digit_is n h =
-    (Decides-below_and (λ k. slice_index upper_digits k == hex_digit k) (λ k. slice_index upper_digits k ≡ hex_digit k) same_digits
-    (λ k. Decides-eqb (slice_index upper_digits k) (hex_digit k)) refl (λ _. refl) 16).0
-    refl n h
+digit_is n h = eqb-true _ _ (agree_below_at (λ k. slice_index upper_digits k == hex_digit k) (λ _. true) 16 n refl h)
 
 -- the text that is written
 pub written_is : (bs : List ℕ) → IsBytes bs → encode_upper bs ≡ hex_text_of bs
