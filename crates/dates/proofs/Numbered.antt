@@ -1,10 +1,11 @@
 -- Dates and the numbers of their days: each good date has one number, and the dates are counted without a gap.
-use Rattle.std.proofs.Common.{◌≡◌, ℕ, zero, suc, ◌+◌, ◌-◌, ◌<◌, ◌≤◌, true, cond, ltb, sym, refl, ap, ◌∙◌, subst, add-zero, arith, ltb-false, ltb-true}
+use Rattle.std.proofs.Common.{◌≡◌, ℕ, zero, suc, ◌+◌, ◌-◌, ◌<◌, ◌≤◌, true, ltb, sym, refl, ap, ◌∙◌, subst, add-zero, arith, ltb-false, ltb-true}
+use Rattle.std.proofs.lemmas.Bool.{cond_both}
 use Rattle.std.proofs.lemmas.Bool.Decides.{nat_tests}
 use Rattle.dates.specs.declared.date.Date.{Date}
 use Rattle.dates.specs.Lengths.{days_of_month, months_before, days_of_year, years_before}
 use Rattle.dates.specs.Days.{date, next_date, date_of_day, known, past, number}
-use Rattle.dates.proofs.Sums.{by_test, total_below, one_place, months_more, years_more}
+use Rattle.dates.proofs.Sums.{total_below, one_place, months_more, years_more}
 
 -- the year is not before 2000, and has the month and the day
 pub record Good (t : Date) : Type 0 where
@@ -60,13 +61,9 @@ next_year t n h l m =
 
 pub next_numbered : (t : Date) (n : ℕ) → Numbered t n → Numbered (next_date t) (suc n)
 next_numbered t n h =
-    by_test (ltb t.day (days_of_month t.year t.month))
-    (λ b. Numbered (cond b (date t.year t.month (t.day + 1)) (cond (ltb t.month 12) (date t.year (t.month + 1) 1) (date (t.year + 1) 1 1))) (suc n))
-    (λ e. next_day t n h (ltb-true _ _ e))
-    (λ e.
-    by_test (ltb t.month 12) (λ b. Numbered (cond b (date t.year (t.month + 1) 1) (date (t.year + 1) 1 1)) (suc n))
-    (λ k. next_month t n h (ltb-false _ _ e) (ltb-true _ _ k))
-    (λ k. next_year t n h (ltb-false _ _ e) (ltb-false _ _ k)))
+    cond_both (ltb t.day (days_of_month t.year t.month)) _ _ (λ u. Numbered u (suc n)) (λ e. next_day t n h (ltb-true _ _ e)) λ e.
+    cond_both (ltb t.month 12) _ _ (λ u. Numbered u (suc n)) (λ k. next_month t n h (ltb-false _ _ e) (ltb-true _ _ k))
+    (λ k. next_year t n h (ltb-false _ _ e) (ltb-false _ _ k))
 
 pub numbered : (n : ℕ) → Numbered (date_of_day n) n
 numbered zero = (record { year = omega arith; month = (omega arith, omega arith); day = (omega arith, omega arith) }, refl)
@@ -134,13 +131,8 @@ known_small t k =
 pub small_known : (n : ℕ) → n ≤ 36524 → Known (date_of_day n)
 small_known n h =
     let k = numbered n in
+    let w : years_before 99 + days_of_year 2099 ≡ 36525 = refl in
     record {
       good = k.0;
-      most =
-          by_test (ltb 2099 (date_of_day n).year) (λ _. (date_of_day n).year ≤ 2099)
-          (λ l.
-          let p = total_below (λ j. days_of_year (2000 + j)) 99 ((date_of_day n).year - 2000) (omega (arith, ltb-true _ _ l)) in
-          let w : years_before 99 + days_of_year 2099 ≡ 36525 = refl in
-          absurd (omega (arith, p, k.1, w, h)))
-          (λ l. ltb-false _ _ l);
+      most = grind (arith, total_below (λ j. days_of_year (2000 + j)) 99 ((date_of_day n).year - 2000), k.1, w, h);
     }

@@ -1,13 +1,9 @@
 -- Running totals: a step, and that a place in one of the parts has one part and one place in it.
-use Rattle.std.proofs.Common.{◌≡◌, ℕ, zero, suc, ◌+◌, ◌-◌, ◌<◌, ◌≤◌, Bool, true, false, map, ◌*◌, sym, add_comm, refl, ap, ◌∙◌, add-one, arith}
+use Rattle.std.proofs.Common.{◌≡◌, ℕ, zero, suc, ◌+◌, ◌-◌, ◌<◌, ◌≤◌, map, ◌*◌, sym, add_comm, refl, ap, ◌∙◌, add-one, arith}
 use Rattle.std.proofs.lemmas.Bool.Decides.{nat_tests}
 use Rattle.std.proofs.lemmas.List.FromFn.{sum_by-map-range_with_len_more}
 use Rattle.std.specs.List.{sum, range_with_len}
 use Rattle.dates.specs.Lengths.{days_of_month, total, months_before, days_of_year, years_before}
-
-pub by_test : (b : Bool) (P : Bool → Type 0) → (b ≡ true → P true) → (b ≡ false → P false) → P b
-by_test true P x y = x refl
-by_test false P x y = y refl
 
 module _ (f : ℕ → ℕ) where
   pub total_at : (a b : ℕ) → b ≡ a + 1 → total f b ≡ total f a + f a

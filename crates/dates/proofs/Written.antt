@@ -1,9 +1,9 @@
 -- A number of a date in two digits.
-use Rattle.std.proofs.Common.{◌≡◌, ℕ, ◌+◌, ◌-◌, ◌/◌, ◌%◌, ◌^◌, ◌<◌, ◌≤◌, false, List, [], ◌∷◌, ◌++◌, length, decimal, sym, ap, ◌∙◌, arith, append-nil, length-append, replicate, ltb, ltb-true, ltb-false}
+use Rattle.std.proofs.Common.{◌≡◌, ℕ, ◌+◌, ◌-◌, ◌/◌, ◌%◌, ◌^◌, ◌<◌, ◌≤◌, false, List, [], ◌∷◌, ◌++◌, length, decimal, sym, ap, ◌∙◌, arith, append-nil, length-append, replicate, inl, inr}
+use Rattle.std.proofs.lemmas.Bool.{cases_lt}
 use Rattle.std.proofs.lemmas.Fmt.{decimal_digit, decimal_step, decimal_nonempty}
 use Rattle.std.specs.Fmt.{padded_integral, format_spec, char_count}
 use Rattle.dates.specs.Days.{two_digits}
-use Rattle.dates.proofs.Sums.{by_test}
 
 -- what `{:02}` writes of a number with these digits
 abbrev pub padded : List ℕ → List ℕ
@@ -32,6 +32,7 @@ more_digits n h k =
 
 -- it is the number in two digits, or in all of them where two are too few
 pub two_written : (n : ℕ) → n < 256 → padded (decimal n) ≡ two_digits n
-two_written n h =
-    by_test (ltb n 10) (λ _. padded (decimal n) ≡ two_digits n)
-    (λ l. one_digit n (ltb-true n 10 l)) (λ l. more_digits n (ltb-false n 10 l) (omega arith))
+two_written n h = elim (cases_lt n 10) [
+  | inl l ↦ one_digit n l
+  | inr l ↦ more_digits n l (omega arith)
+]
