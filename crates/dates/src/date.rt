@@ -5,7 +5,7 @@ ghost use Rattle.dates.specs.Days.{date_text};
 use std::fmt;
 
 // A date: year, month 1 to 12, day 1 to 31.
-#[derive(Clone, Copy, PartialEq, Eq, Debug)]
+#[derive(Clone, Copy, PartialEq, Eq, PartialOrd, Ord, Hash, Debug)]
 pub struct Date {
     pub year: u32,
     pub month: u8,
@@ -16,11 +16,7 @@ impl fmt::Display for Date {
     ghost output = { λ t. Some (date_text t) };
 
     fn fmt<W: fmt::Write>(&self, f: &mut fmt::Formatter<W>) -> fmt::Result {
-        let year = self.year;
-        let tens = self.month / 10;
-        let ones = self.month % 10;
-        let day_tens = self.day / 10;
-        let day_ones = self.day % 10;
-        write!(f, "{year}-{tens}{ones}-{day_tens}{day_ones}")
+        let Date { year, month, day } = *self;
+        write!(f, "{year}-{month:02}-{day:02}")
     }
 }

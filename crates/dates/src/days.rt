@@ -18,7 +18,8 @@ fn month_length(year: u32, month: u8) -> u8
     ensures bound { result ≤ 31 }
 {
     match month {
-        2 => { if is_leap(year) { 29 } else { 28 } }
+        2 if is_leap(year) => 29,
+        2 => 28,
         4 | 6 | 9 | 11 => 30,
         _ => 31,
     }
@@ -38,11 +39,7 @@ fn before_month(year: u32, month: u8) -> u32
     ensures value { result ≡ months_before year (month - 1) }
     ensures bound { result ≤ 372 }
 {
-    let mut days = 0;
-    for m in 1..month {
-        days += u32::from(month_length(year, m));
-    }
-    days
+    (1..month).map(|m| u32::from(month_length(year, m))).sum()
 }
 
 // How many days stand before a year, from 2000 on.
@@ -51,24 +48,19 @@ fn before_year(year: u32) -> u32
     ensures value { result ≡ years_before (year - 2000) }
     ensures bound { result ≤ 36600 }
 {
-    let mut days = 0;
-    for y in 2000..year {
-        days += year_length(y);
-    }
-    days
+    (2000..year).map(year_length).sum()
 }
 
 // The year of a day, and how many days of it are past.
-fn in_year(day: u32) -> (u32, u32)
-    requires { day < 65536 }
+fn in_year(day: u16) -> (u32, u32)
     ensures sum { years_before (result.0 - 2000) + result.1 ≡ day }
     ensures past { result.1 < days_of_year result.0 }
     ensures from { 2000 ≤ result.0 }
 {
     let mut year = 2000;
-    let mut past = day;
-    while past >= year_length(year) {
-        past -= year_length(year);
+    let mut past = u32::from(day);
+    while let Some(rest) = past.checked_sub(year_length(year)) {
+        past = rest;
         year += 1;
     }
     (year, past)
@@ -82,26 +74,25 @@ fn in_month(year: u32, past: u32) -> Date
     ensures day { (1 ≤ result.day) × (result.day ≤ days_of_month year result.month) }
     ensures year { result.year ≡ year }
 {
+    let mut month = 1;
     let mut past = past;
-    for month in 1..=12 {
-        let length = month_length(year, month);
-        if past < u32::from(length) {
-            return Date {
-                year,
-                month,
-                day: past as u8 + 1,
-            };
-        }
-        past -= u32::from(length);
+    while let Some(rest) = past.checked_sub(u32::from(month_length(year, month))) {
+        past = rest;
+        month += 1;
     }
-    unreachable()
+    Date {
+        year,
+        month,
+        day: past as u8 + 1,
+    }
 }
 
 // The date of a day.
+// No `From<u16>`: a bare number is a date only by this count of days from 1 January 2000.
 pub fn date_of(day: u16) -> Date
     ensures { result ≡ date_of_day day }
 {
-    let (year, past) = in_year(u32::from(day));
+    let (year, past) = in_year(day);
     in_month(year, past)
 }
 
@@ -109,12 +100,9 @@ pub fn date_of(day: u16) -> Date
 fn is_known(date: Date) -> bool
     ensures { result ≡ known date }
 {
-    date.year >= 2000
-        && date.year <= 2099
-        && date.month >= 1
-        && date.month <= 12
-        && date.day >= 1
-        && date.day <= month_length(date.year, date.month)
+    (2000..=2099).contains(&date.year)
+        && (1..=12).contains(&date.month)
+        && (1..=month_length(date.year, date.month)).contains(&date.day)
 }
 
 // The day with this date, if it is one from 2000-01-01 to 2099-12-31.

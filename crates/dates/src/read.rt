@@ -1,25 +1,19 @@
 // Reading a date.
 ghost use Rattle.std.specs.Prelude.{◌≡◌};
-ghost use Rattle.dates.specs.Text.{in_byte, date_read};
+ghost use Rattle.dates.specs.Text.{date_read};
 
 use crate::date::Date;
 use text::{decimal, split_once};
 
-// The number, if it fits a byte.
-fn narrow(n: u32) -> Option<u8>
-    ensures { result ≡ in_byte n }
-{
-    if n < 256 { Some(n as u8) } else { None }
-}
-
 // The date that a text writes, as 2024-08-22. Whether there is such a date is another question.
+// No `TryFrom<&[u8]>`: bytes hold a date in other forms too.
 pub fn read_date(text: &[u8]) -> Option<Date>
     ensures { result ≡ date_read text.now }
 {
     let (year, rest) = split_once(text, b'-')?;
     let (month, day) = split_once(rest, b'-')?;
     let year = decimal(year)?;
-    let month = narrow(decimal(month)?)?;
-    let day = narrow(decimal(day)?)?;
+    let month = u8::try_from(decimal(month)?).ok()?;
+    let day = u8::try_from(decimal(day)?).ok()?;
     Some(Date { year, month, day })
 }

@@ -1,33 +1,27 @@
--- A text in two parts: a step of looking for the byte that parts them.
-use Rattle.std.proofs.Common.{◌≡◌, ℕ, ◌+◌, ◌<◌, cond, List, [], ◌∷◌, ◌++◌, length, get_or, take, drop, Some, None, Option, sym, refl, ap, ◌∙◌, append_assoc, append-nil, eq-eqb, ne_eqb}
-use Rattle.std.proofs.lemmas.List.{at_drop_more, take_more}
+-- A text in two parts, at the first place of a byte.
+use Rattle.std.proofs.Common.{◌≡◌, ℕ, suc, ◌+◌, Bool, cond, List, [], ◌∷◌, take, drop, Some, None, Option, ◌==◌, refl, ap, arith}
+use Rattle.std.proofs.lemmas.Bool.Decides.{nat_tests}
+use Rattle.std.specs.List.{position}
+use Rattle.std.specs.Option.{option_map}
 use Rattle.text.specs.Splits.{Parts, with_front, split_at}
 
--- nothing before the first part
-pub front_none : (o : Option Parts) → with_front [] o ≡ o
-front_none None = refl
-front_none (Some p) = refl
+-- the first place in a text with a byte in front
+position_cons : (p : ℕ → Bool) (c : ℕ) (cs : List ℕ) → position p (c ∷ cs) ≡ cond (p c) (Some 0) (option_map suc (position p cs))
+position_cons p c cs = grind (arith, nat_tests)
 
--- one text before another
-pub front_more : (xs ys : List ℕ) (o : Option Parts) → with_front (xs ++ ys) o ≡ with_front xs (with_front ys o)
-front_more xs ys None = refl
-front_more xs ys (Some p) = ap (λ zs. Some (zs, p.1)) (append_assoc xs ys p.0)
+-- the two parts of a text at a place
+abbrev pub parts_at : List ℕ → ℕ → Parts
+parts_at cs i = (take i cs, drop (i + 1) cs)
 
-module _ (m : ℕ) (cs : List ℕ) (i : ℕ) (h : i < length cs) where
-  -- the byte at a place is not the one that is looked for
-  pub split_more : (get_or cs i 0 ≡ m → ⊥) → with_front (take (i + 1) cs) (split_at m (drop (i + 1) cs)) ≡ with_front (take i cs) (split_at m (drop i cs))
-  split_more n =
-      let c = get_or cs i 0 in
-      let rest = split_at m (drop (i + 1) cs) in
-      let e : split_at m (drop i cs) ≡ with_front (c ∷ []) rest =
-      at_drop_more (split_at m) cs i 0 h ∙ ap (λ b. cond b (Some ([], drop (i + 1) cs)) (with_front (c ∷ []) rest)) (ne_eqb c m n) in
-      ap (λ xs. with_front xs rest) (take_more cs i 0 h) ∙ front_more (take i cs) (c ∷ []) rest ∙ ap (with_front (take i cs)) (sym e)
+front_more : (c : ℕ) (cs : List ℕ) (o : Option ℕ) →
+    with_front (c ∷ []) (option_map (parts_at cs) o) ≡ option_map (parts_at (c ∷ cs)) (option_map suc o)
+front_more c cs None = refl
+front_more c cs (Some i) = let e : suc (i + 1) ≡ suc i + 1 = omega arith in ap (λ n. Some (c ∷ take i cs, drop n (c ∷ cs))) e
 
-  -- it is
-  pub split_here : get_or cs i 0 ≡ m → Some (take i cs, drop (i + 1) cs) ≡ with_front (take i cs) (split_at m (drop i cs))
-  split_here n =
-      let c = get_or cs i 0 in
-      let rest = with_front (c ∷ []) (split_at m (drop (i + 1) cs)) in
-      let e : split_at m (drop i cs) ≡ Some ([], drop (i + 1) cs) =
-      at_drop_more (split_at m) cs i 0 h ∙ ap (λ b. cond b (Some ([], drop (i + 1) cs)) rest) (eq-eqb c m n) in
-      ap (λ xs. Some (xs, drop (i + 1) cs)) (sym (append-nil (take i cs))) ∙ ap (with_front (take i cs)) (sym e)
+-- the parts are those at the first place of the byte
+pub split_is : (m : ℕ) (cs : List ℕ) → split_at m cs ≡ option_map (parts_at cs) (position (λ c. c == m) cs)
+split_is m [] = refl
+split_is m (c ∷ cs) =
+    let e = position_cons (λ x. x == m) c cs in
+    let f = front_more c cs (position (λ x. x == m) cs) in
+    grind (arith, split_is m cs)

@@ -1,50 +1,61 @@
--- Bytes in hexadecimal digits: a step of reading, a step of writing, and that what is written is read back.
-use Rattle.std.proofs.Common.{◌≡◌, ℕ, suc, ◌+◌, ◌*◌, ◌/◌, ◌%◌, ◌<◌, ◌≤◌, List, [], ◌∷◌, ◌++◌, length, get_or, drop, Some, None, Option, refl, ap, ◌∙◌, append_assoc, add_assoc, arith}
-use Rattle.std.proofs.lemmas.List.{at_drop_more, drop_more, drop_all}
+-- Bytes in hexadecimal digits are those of the crate hex, and what is written is read back.
+use Rattle.std.proofs.Common.{◌≡◌, ℕ, suc, ◌+◌, ◌*◌, ◌/◌, ◌%◌, ◌<◌, List, [], ◌∷◌, length, slice_index, Some, None, Option, Ok, Err, Result, sym, refl, ap, ◌∙◌, arith, true, ◌==◌}
+use borrow.Author.Tests.{eqb-true}
+use Rattle.std.proofs.lemmas.Bool.{agree_below_at}
 use Rattle.std.proofs.lemmas.Bool.Decides.{nat_tests}
-use Rattle.std.specs.Option.{option_map}
+use Rattle.std.specs.Result.{result_ok}
+use Rattle.hex.specs.Hex.{IsBytes, decode_of, decode_pairs, digit_or_error, hex_digit_value, encode_upper, encode_with, upper_digits, ◌>>=◌}
+use Rattle.hex.specs.declared.error.FromHexError.{FromHexError}
+use Rattle.hex.proofs.HexLemmas.{decode_of-encode_upper}
 use Rattle.text.specs.Hexadecimals.{hex_value, hex_digit, paired, led, hex_bytes_of, hex_text_of}
 
--- two digits at a place
-pub pair_more : (cs : List ℕ) (i : ℕ) → i + 2 ≤ length cs →
-    hex_bytes_of (drop i cs) ≡ led (paired (hex_value (get_or cs i 0)) (hex_value (get_or cs (i + 1) 0))) (hex_bytes_of (drop (i + 2) cs))
-pair_more cs i h =
-    let p : i < length cs = omega arith in
-    let q : i + 1 < length cs = omega arith in
-    ap hex_bytes_of (drop_more cs i 0 p ∙ ap (λ xs. get_or cs i 0 ∷ xs) (drop_more cs (i + 1) 0 q))
-    ∙ ap (λ n. led (paired (hex_value (get_or cs i 0)) (hex_value (get_or cs (i + 1) 0))) (hex_bytes_of (drop n cs))) (add_assoc i 1 1)
+same_value : (c : ℕ) → hex_digit_value c ≡ hex_value c
+same_value c = grind (arith, nat_tests)
 
--- a digit that is alone
-pub pair_none : (cs : List ℕ) (i : ℕ) → i < length cs → length cs ≤ i + 1 → hex_bytes_of (drop i cs) ≡ None
-pair_none cs i h k = ap hex_bytes_of (drop_more cs i 0 h ∙ ap (λ xs. get_or cs i 0 ∷ xs) (drop_all (i + 1) cs k))
+-- the byte of two digits, and the bytes behind it
+joined : (c d i : ℕ) (x y : Option ℕ) (r : Result (List ℕ) FromHexError) →
+    result_ok ((digit_or_error c i x >>= λ h. digit_or_error d (i + 1) y >>= λ l. Ok (h * 16 + l)) >>= λ b. r >>= λ bs. Ok (b ∷ bs))
+    ≡ led (paired x y) (result_ok r)
+joined c d i None y r = refl
+joined c d i (Some x) None r = refl
+joined c d i (Some x) (Some y) (Ok bs) = refl
+joined c d i (Some x) (Some y) (Err e) = refl
 
--- a byte that is read joins those before it
-pub read_more : (xs : List ℕ) (b : ℕ) (o : Option (List ℕ)) →
-    option_map (λ bs. (xs ++ (b ∷ [])) ++ bs) o ≡ option_map (λ bs. xs ++ bs) (led (Some b) o)
-read_more xs b None = refl
-read_more xs b (Some ys) = ap (λ zs. Some zs) (append_assoc xs (b ∷ []) ys)
+pairs_read : (i : ℕ) (cs : List ℕ) → result_ok (decode_pairs i cs) ≡ hex_bytes_of cs
+unfolding decode_pairs
+pairs_read i [] = refl
+pairs_read i (c ∷ []) = refl
+pairs_read i (c ∷ d ∷ cs) =
+    joined c d i (hex_digit_value c) (hex_digit_value d) (decode_pairs (i + 2) cs)
+    ∙ (λ j. led (paired (same_value c j) (same_value d j)) (pairs_read (i + 2) cs j))
 
--- a byte at a place is written
-pub text_more : (bs : List ℕ) (i : ℕ) → i < length bs →
-    hex_text_of (drop i bs) ≡ hex_digit (get_or bs i 0 / 16) ∷ hex_digit (get_or bs i 0 % 16) ∷ hex_text_of (drop (i + 1) bs)
-text_more bs i h = at_drop_more hex_text_of bs i 0 h
+odd_read : (cs : List ℕ) → length cs % 2 ≡ 1 → hex_bytes_of cs ≡ None
+odd_read [] h = absurd (omega arith)
+odd_read (c ∷ []) h = refl
+odd_read (c ∷ d ∷ cs) h = ap (led (paired (hex_value c) (hex_value d))) (odd_read cs (omega arith)) ∙ led_none (paired (hex_value c) (hex_value d))
+  where
+    led_none : (x : Option ℕ) → led x None ≡ None
+    led_none None = refl
+    led_none (Some x) = refl
 
--- two digits written behind a text
-pub two_written : (t xs : List ℕ) (a b : ℕ) → ((t ++ (a ∷ [])) ++ (b ∷ [])) ++ xs ≡ t ++ (a ∷ b ∷ xs)
-two_written t xs a b = append_assoc (t ++ (a ∷ [])) (b ∷ []) xs ∙ append_assoc t (a ∷ []) (b ∷ xs)
+-- the bytes that are read
+pub read_is : (cs : List ℕ) → hex_bytes_of cs ≡ result_ok (decode_of cs)
+read_is cs = let e = pairs_read 0 cs in grind (arith, nat_tests, odd_read cs)
 
-pub digit_ascii : (n : ℕ) → n < 16 → hex_digit n < 128
-digit_ascii n h = grind (arith, nat_tests)
+digit_is : (n : ℕ) → n < 16 → slice_index upper_digits n ≡ hex_digit n
+digit_is n h = eqb-true _ _ (agree_below_at (λ k. slice_index upper_digits k == hex_digit k) (λ _. true) 16 n refl h)
 
-value_back : (n : ℕ) → n < 16 → hex_value (hex_digit n) ≡ Some n
-value_back n h = grind (arith, nat_tests)
+-- the text that is written
+pub written_is : (bs : List ℕ) → IsBytes bs → encode_upper bs ≡ hex_text_of bs
+unfolding encode_with
+written_is [] h = refl
+written_is (b ∷ bs) h =
+    let small = h 0 in
+    let p = digit_is (b / 16) (omega arith) in
+    let q = digit_is (b % 16) (omega arith) in
+    λ i. p i ∷ q i ∷ written_is bs (λ j. h (suc j)) i
 
 -- what is written is read back
-pub read_back : (bs : List ℕ) → ((i : ℕ) → get_or bs i 0 < 256) → hex_bytes_of (hex_text_of bs) ≡ Some bs
-read_back [] h = refl
-read_back (b ∷ bs) h =
-    let small = h 0 in
-    let p = value_back (b / 16) (omega arith) in
-    let q = value_back (b % 16) (omega arith) in
-    let whole : b / 16 * 16 + b % 16 ≡ b = omega arith in
-    (λ i. led (paired (p i) (q i)) (read_back bs (λ j. h (suc j)) i)) ∙ ap (λ x. Some (x ∷ bs)) whole
+pub read_back : (bs : List ℕ) → IsBytes bs → hex_bytes_of (hex_text_of bs) ≡ Some bs
+read_back bs h =
+    ap hex_bytes_of (sym (written_is bs h)) ∙ read_is (encode_upper bs) ∙ ap result_ok (decode_of-encode_upper bs h)

@@ -11,10 +11,8 @@ pub fn decimal(text: &[u8]) -> Option<u32>
     }
     let mut n = 0u32;
     for c in text {
-        if *c < b'0' || *c > b'9' {
-            return None;
-        }
-        n = n.saturating_mul(10).saturating_add(u32::from(*c - b'0'));
+        let digit = char::from(*c).to_digit(10)?;
+        n = n.saturating_mul(10).saturating_add(digit);
     }
     Some(n)
 }

@@ -7,10 +7,6 @@ ghost use Rattle.text.specs.Splits.{split_at};
 pub fn split_once(text: &[u8], mark: u8) -> Option<(&[u8], &[u8])>
     ensures { option_map (λ p. (p.0.now, p.1.now)) result ≡ split_at mark text.now }
 {
-    for (i, c) in text.iter().enumerate() {
-        if *c == mark {
-            return Some((&text[0..i], &text[i + 1..]));
-        }
-    }
-    None
+    let i = text.iter().position(|c| *c == mark)?;
+    Some((&text[..i], &text[i + 1..]))
 }

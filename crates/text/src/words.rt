@@ -7,31 +7,25 @@ ghost use Rattle.text.specs.Words.{blank, trimmed, front_word, word, behind};
 fn is_blank(c: u8) -> bool
     ensures { result ≡ blank c }
 {
-    c == b' ' || c == b'\t' || c == b'\n' || c == b'\r'
+    matches!(c, b' ' | b'\t' | b'\n' | b'\r')
 }
 
 // What is left behind the blanks in front.
 fn trim(text: &[u8]) -> &[u8]
     ensures { result.now ≡ trimmed text.now }
 {
-    for (i, c) in text.iter().enumerate() {
-        if !is_blank(*c) {
-            return &text[i..];
-        }
-    }
-    &[]
+    let front = text
+        .iter()
+        .position(|c| !is_blank(*c))
+        .unwrap_or(text.len());
+    &text[front..]
 }
 
 // How many bytes stand before the first blank.
 fn word_length(text: &[u8]) -> usize
     ensures { result ≡ length (front_word text.now) }
 {
-    for (i, c) in text.iter().enumerate() {
-        if is_blank(*c) {
-            return i;
-        }
-    }
-    text.len()
+    text.iter().position(|c| is_blank(*c)).unwrap_or(text.len())
 }
 
 // The first word of a line, empty if there is none, and what stands behind it.

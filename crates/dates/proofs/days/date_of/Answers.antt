@@ -16,6 +16,5 @@ returns c =
       },
       (λ i. years_before (y i - 2000) + (months_before (y i) (t.month - 1) + (t.day - 1)))
           ∙ ap (λ n. years_before (m - 2000) + n) c.in_month.ensures.sum
-          ∙ c.in_year-year.ensures.sum
-          ∙ c.from.ensures,
+          ∙ c.in_year-year.ensures.sum,
     )

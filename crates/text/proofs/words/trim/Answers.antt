@@ -1,19 +1,19 @@
-use Rattle.std.proofs.Common.{sym, ◌∙◌}
-use Rattle.std.proofs.lemmas.List.{take_rest, at_drop_all}
-use Rattle.text.specs.Words.{trimmed}
-use Rattle.text.proofs.Pieces.{trim_more, trim_none}
+use Rattle.std.proofs.Common.{◌≡◌, rules, length, drop, not, ap, ◌∙◌}
+use Rattle.std.proofs.lemmas.List.{take_rest}
+use borrow.Author.Tests.{tests}
+use Rattle.std.proofs.lemmas.Iterator.{YieldsList-from_slice}
+use Rattle.std.proofs.lemmas.Iterator.Search.{position_from_yields_List}
+use Rattle.std.specs.List.{position}
+use Rattle.std.specs.Option.{unwrap_or}
+use Rattle.text.specs.Words.{blank}
+use Rattle.text.proofs.Pieces.{trim_at}
 use Rattle.text.proofs.words.trim.Goals as goal
 
-pub returns-then-not-is_blank : goal.returns-then-not-is_blank
-returns-then-not-is_blank c =
-    let s = c.args.text.now in
-    take_rest s c.loop-i.i
-    ∙ sym (trim_none s c.loop-i.i c.loop-i-test.true (sym c.if-not-is_blank.ensures))
-    ∙ c.loop-i.invariant
-
-pub loop-i-preserved : goal.loop-i-preserved
-loop-i-preserved c =
-    sym (trim_more c.args.text.now c.loop-i.i c.loop-i-test.true (sym c.if-not-is_blank.ensures)) ∙ c.loop-i.invariant
-
 pub returns : goal.returns
-returns c = sym (at_drop_all trimmed c.args.text.now c.loop-i.i c.loop-i-test.false) ∙ c.loop-i.invariant
+returns c =
+    let s = c.args.text.now in
+    let e : c.position.result ≡ position (λ b. not (blank b)) s =
+    position_from_yields_List (λ b. not (blank b)) _ _ c.position.result c.position.ensures.ran (YieldsList-from_slice s (cc)) (λ x b q k. search (rules, tests)) in
+    take_rest s c.unwrap_or-front.result
+    ∙ ap (λ n. drop n s) (c.unwrap_or-front.ensures ∙ ap (λ o. unwrap_or o (length s)) e)
+    ∙ trim_at s

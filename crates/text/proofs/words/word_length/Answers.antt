@@ -1,20 +1,16 @@
-use Rattle.std.proofs.Common.{length, sym, arith}
-use Rattle.std.proofs.lemmas.List.{at_drop_all}
-use Rattle.text.specs.Words.{front_word}
-use Rattle.text.proofs.Pieces.{word_none, word_more}
+use Rattle.std.proofs.Common.{◌≡◌, rules, length, ap, ◌∙◌}
+use borrow.Author.Tests.{tests}
+use Rattle.std.proofs.lemmas.Iterator.{YieldsList-from_slice}
+use Rattle.std.proofs.lemmas.Iterator.Search.{position_from_yields_List}
+use Rattle.std.specs.List.{position}
+use Rattle.std.specs.Option.{unwrap_or}
+use Rattle.text.specs.Words.{blank}
+use Rattle.text.proofs.Pieces.{word_end}
 use Rattle.text.proofs.words.word_length.Goals as goal
-
-pub returns-then-is_blank : goal.returns-then-is_blank
-returns-then-is_blank c =
-    let e = word_none c.args.text.now c.loop-i.i c.loop-i-test.true (sym c.if-is_blank.ensures) in
-    let i = c.loop-i.invariant in omega arith
-
-pub loop-i-preserved : goal.loop-i-preserved
-loop-i-preserved c =
-    let e = word_more c.args.text.now c.loop-i.i c.loop-i-test.true (sym c.if-is_blank.ensures) in
-    let i = c.loop-i.invariant in omega arith
 
 pub returns : goal.returns
 returns c =
-    let e = at_drop_all (λ cs. length (front_word cs)) c.args.text.now c.loop-i.i c.loop-i-test.false in
-    let i = c.loop-i.invariant in omega arith
+    let s = c.args.text.now in
+    let e : c.position.result ≡ position blank s =
+    position_from_yields_List blank _ _ c.position.result c.position.ensures.ran (YieldsList-from_slice s (cc)) (λ x b q k. search (rules, tests)) in
+    c.unwrap_or.ensures ∙ ap (λ o. unwrap_or o (length s)) e ∙ word_end s
