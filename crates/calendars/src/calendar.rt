@@ -1,21 +1,41 @@
-ghost use Rattle.std.specs.Prelude.{◌≡◌, false, [], length, drop, is_ok};
+ghost use Rattle.std.specs.Prelude.{◌≡◌, true, false, [], length, drop, is_ok};
+ghost use Rattle.std.specs.List.{list_all};
 ghost use Rattle.rules.specs.Entries.{room, leave, holds};
 ghost use Rattle.rules.specs.Stamps.{least, after};
+ghost use Rattle.places.specs.Used.{in_use};
+ghost use Rattle.calendars.specs.Rows.{sound, entries_in};
 ghost use Rattle.calendars.specs.Told.{shown};
 ghost use Rattle.calendars.specs.Refused.{answered};
-ghost use Rattle.calendars.specs.Calendars.{calendar_means};
 ghost use Rattle.calendars.specs.Meanings.{join_answer, join_entries};
 ghost use Rattle.calendars.specs.Memory.{rows_joined, rows_left};
 
 use crate::entry::Entry;
 use crate::refusal::CalendarRefusal;
 use crate::row::Row;
-use crate::rows::Rows;
-use crate::rows::calendar::Calendar;
 use events::Stamp;
 use kinds::Kind;
+use places::{Full, Key, Rows};
+use std::marker::PhantomData;
+
+// Entries of one kind in stamp order, in the first of the rows: as many as there are rows, and 4,096 at most.
+#[derive(Drop)]
+pub struct Calendar<'a, V> {
+    rows: Rows<'a, Row, 4096>,
+    kind: PhantomData<V>,
+    ghost stamped: { list_all sound (in_use rows) ≡ true },
+}
+
+// The entry of the first row, if there is one.
+fn first_of<V: Kind>(rows: &[Row]) -> Option<Entry<V>>
+    requires { list_all sound rows.now ≡ true }
+    ensures { shown result ≡ least (entries_in V.Kind.format rows.now) }
+{
+    rows.first()?.entry()
+}
 
 impl<'a, V: Kind + Copy> Calendar<'a, V> {
+    ghost use Rattle.calendars.specs.Calendars.{calendar_means};
+
     // An empty calendar over the rows, of which the first 4,096 are used. They are left as they are.
     pub fn new(rows: &'a mut [Row]) -> Calendar<'a, V>
         ensures entries { (calendar_means V.Kind.format result).entries ≡ [] }
@@ -23,8 +43,8 @@ impl<'a, V: Kind + Copy> Calendar<'a, V> {
         ensures memory { result.rows.rows.now ≡ rows.old }
     {
         Calendar {
-            rows: Rows { rows, len: 0 },
-            kind: [],
+            rows: Rows::new(rows),
+            kind: PhantomData,
         }
     }
 
@@ -39,17 +59,14 @@ impl<'a, V: Kind + Copy> Calendar<'a, V> {
     pub fn len(&self) -> usize
         ensures { result ≡ length (calendar_means V.Kind.format self.now).entries }
     {
-        self.rows.len
+        self.rows.len()
     }
 
     // Whether an entry stands under the stamp.
     pub fn contains(&self, at: Stamp) -> bool
         ensures { result ≡ holds at.site at.number (calendar_means V.Kind.format self.now).entries }
     {
-        let u = at.site();
-        let n = at.number();
-        let i = self.rows.rank(u, n);
-        self.rows.has(i, u, n)
+        self.rows.contains(Key::from(at))
     }
 
     // The value joins under the stamp, in place of what stands there: refused with 22 if there would be too many.
@@ -61,20 +78,12 @@ impl<'a, V: Kind + Copy> Calendar<'a, V> {
         ensures memory { self.new.rows.rows.now ≡ rows_joined V.Kind.format at.site at.number value result self.old.rows }
         ensures behind { drop 4096 self.new.rows.rows.now ≡ drop 4096 self.old.rows.rows.now }
     {
-        let u = at.site();
-        let n = at.number();
-        let i = self.rows.rank(u, n);
-        let row = Row::of(at, &value);
-        if self.rows.has(i, u, n) {
-            self.rows.write(i, row);
-            return Ok(());
+        match self.rows.put(Row::of(at, &value)) {
+            Ok(()) => Ok(()),
+            Err(Full) => Err(CalendarRefusal::Full {
+                count: self.rows.len() + 1,
+            }),
         }
-        let len = self.rows.len;
-        if len >= self.rows.room() {
-            return Err(CalendarRefusal::Full { count: len + 1 });
-        }
-        self.rows.insert(i, row);
-        Ok(())
     }
 
     // The entry under the stamp leaves, if there is one.
@@ -84,36 +93,25 @@ impl<'a, V: Kind + Copy> Calendar<'a, V> {
         ensures memory { self.new.rows.rows.now ≡ rows_left at.site at.number self.old.rows }
         ensures behind { drop 4096 self.new.rows.rows.now ≡ drop 4096 self.old.rows.rows.now }
     {
-        let u = at.site();
-        let n = at.number();
-        let i = self.rows.rank(u, n);
-        if self.rows.has(i, u, n) {
-            self.rows.remove(i);
-        }
-    }
-
-    // The entry at a place, counted from 0 in stamp order.
-    fn entry_at(&self, i: usize) -> Option<Entry<V>>
-        ensures { shown result ≡ least (drop i (calendar_means V.Kind.format self.now).entries) }
-    {
-        if i >= self.rows.len {
-            return None;
-        }
-        self.rows.row(i).entry()
+        self.rows.remove(Key::from(at));
     }
 
     // The first entry, or none.
     pub fn first(&self) -> Option<Entry<V>>
         ensures { shown result ≡ least (calendar_means V.Kind.format self.now).entries }
     {
-        self.entry_at(0)
+        first_of(self.rows.as_slice())
     }
 
     // The first entry above the stamp, or none.
     pub fn next(&self, at: Stamp) -> Option<Entry<V>>
         ensures { shown result ≡ after at.site at.number (calendar_means V.Kind.format self.now).entries }
     {
-        let i = self.rows.rank(at.site(), at.number() + 1);
-        self.entry_at(i)
+        first_of(
+            self.rows.rows_from(Key {
+                site: at.site(),
+                number: at.number() + 1,
+            }),
+        )
     }
 }
