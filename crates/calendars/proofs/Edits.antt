@@ -9,13 +9,7 @@ use Rattle.places.specs.Ranks.{ascends, rank}
 use Rattle.places.proofs.Tests.{by_test, and_left, and_right, all_weaker, kept_all}
 use Rattle.places.specs.Edits.{leads}
 use Rattle.places.proofs.Order.{below_trans}
-use Rattle.places.proofs.Edited.{above, apart, like}
-
-apart_up : (u n v m : ℕ) → below u n v m ≡ true → same u n v m ≡ false
-apart_up u n v m p = grind (arith, nat_tests)
-
-not_back : (u n v m : ℕ) → below v m u n ≡ true → below u n v m ≡ false
-not_back u n v m p = grind (arith, nat_tests)
+use Rattle.places.proofs.Edited.{above, apart, apart_up, not_back, like}
 
 module _ {A : Type 0} where
   abbrev st : Stamped A → ℕ

@@ -14,11 +14,11 @@ use Rattle.kinds.specs.Formats.{Format}
 use Rattle.places.specs.Ranks.{ascends, rank}
 use Rattle.places.specs.declared.rows.Rows.{Rows}
 use Rattle.places.specs.Used.{in_use}
-use Rattle.places.specs.Edits.{leads, has, with_put, without}
+use Rattle.places.specs.Edits.{has, with_put, without}
 use Rattle.places.proofs.Tests.{by_test, all_append, all_take, all_drop, all_inserted, all_set}
 use Rattle.places.proofs.Order.{rank_le}
 use Rattle.places.proofs.Looked.{after_is}
-use Rattle.places.proofs.Mapped.{rank-map, ascends-map, inserted_map}
+use Rattle.places.proofs.Mapped.{rank-map, has-map, ascends-map, inserted_map}
 use Rattle.calendars.specs.declared.row.Row.{Row}
 use Rattle.calendars.specs.declared.calendar.Calendar.{Calendar}
 use Rattle.calendars.specs.contracts.row.RowStamped.TheImpl as stamped
@@ -49,19 +49,14 @@ module _ {V : Type 0} (f : Format V) (rs : List Row) where
   abbrev spot : (u m : ℕ) → ℕ
   spot u m = rank (λ x. x.0) (λ x. x.1) u m zs
 
-  leads-map : (u m : ℕ) (xs : List Row) → leads site_of number_of u m xs ≡ leads (λ x. x.0) (λ x. x.1) u m (entries_in f xs)
-  leads-map u m [] = refl
-  leads-map u m (x ∷ xs) = refl
-
   there : (u m : ℕ) → place u m ≡ spot u m
   there u m = rank-map (entry_in f) (λ x. x.0) (λ x. x.1) u m rs
 
   pub after_rows : (u m : ℕ) → least (entries_in f (drop (place u (m + 1)) rs)) ≡ after u m zs
   after_rows u m = ap least (sym (drop-map (entry_in f) (place u (m + 1)) rs)) ∙ ap (λ k. least (drop k zs)) (there u (m + 1)) ∙ sym (after_is u m zs)
 
-  has_there : (u m : ℕ) → leads (λ x. x.0) (λ x. x.1) u m (drop (spot u m) zs) ≡ has site_of number_of u m rs
-  has_there u m = ap (λ k. leads (λ x. x.0) (λ x. x.1) u m (drop k zs)) (sym (there u m))
-      ∙ ap (leads (λ x. x.0) (λ x. x.1) u m) (drop-map (entry_in f) (place u m) rs) ∙ sym (leads-map u m (drop (place u m) rs))
+  has_there : (u m : ℕ) → has (λ x. x.0) (λ x. x.1) u m zs ≡ has site_of number_of u m rs
+  has_there u m = sym (has-map (entry_in f) (λ x. x.0) (λ x. x.1) u m rs)
 
   module _ (asc : ascends site_of number_of rs ≡ true) where
     rises : ascends (λ x. x.0) (λ x. x.1) zs ≡ true
