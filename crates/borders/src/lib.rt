@@ -5,7 +5,7 @@
 mod entries {
     use dates::{date_of, day_of};
     use kinds::{Booking, Kind, Notice};
-    use refusals::{Layer, Refusal};
+    use refusals::{Ground, Layer, Refusal};
 
     // What is told of bytes that are no entry of a kind.
     fn told<K: Kind + Drop>(bytes: &[u8]) -> Option<Refusal> {
@@ -79,7 +79,7 @@ mod entries {
 #[cfg(test)]
 mod stamps {
     use events::{Stamp, StampRefusal, StampTextRefusal};
-    use refusals::{Layer, Refusal};
+    use refusals::{Ground, Layer, Refusal};
     use std::test::Fail;
 
     // What is told of a stamp that is refused.

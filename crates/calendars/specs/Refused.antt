@@ -1,9 +1,9 @@
 -- The refusals of a calendar, as the rules have them, and in words.
 -- Assumes nothing.
-use Rattle.std.specs.Prelude.{ℕ, List, ◌++◌, codes, Result}
+use Rattle.std.specs.Prelude.{ℕ, List, codes, Result}
 use Rattle.rules.specs.Refusals.{Refusal, calendar_full, no_entry}
 use Rattle.rules.specs.Results.{refused_as}
-use Rattle.refusals.specs.Shown.{told, refusal_text}
+use Rattle.refusals.specs.Shown.{ground_text}
 use Rattle.calendars.specs.declared.refusal.CalendarRefusal.{CalendarRefusal}
 use Rattle.calendars.specs.declared.refusal.CalendarRefusal.TheVariants.{Full, NoEntry}
 
@@ -21,4 +21,4 @@ words_of (Full n) = codes "the calendar has no room"
 words_of (NoEntry n) = codes "no entry that can be struck has the stamp"
 
 abbrev pub calendar_refusal_text : CalendarRefusal → List ℕ
-calendar_refusal_text x = refusal_text (told (refusal_of x)) ++ (codes ": " ++ words_of x)
+calendar_refusal_text x = ground_text (refusal_of x) (words_of x)

@@ -1,9 +1,8 @@
 // Why a calendar refuses.
-ghost use Rattle.std.specs.Prelude.{◌≡◌, Some};
-ghost use Rattle.refusals.specs.Shown.{told};
+ghost use Rattle.std.specs.Prelude.{Some};
 ghost use Rattle.calendars.specs.Refused.{refusal_of, words_of, calendar_refusal_text};
 
-use refusals::{Layer, Refusal};
+use refusals::{Ground, Layer, Refusal};
 use std::fmt;
 
 // Refusal 22, which carries how many entries there would be, and 23, which carries the number of a stamp that cannot be struck.
@@ -13,14 +12,15 @@ pub enum CalendarRefusal {
     NoEntry { number: u32 },
 }
 
-impl CalendarRefusal {
-    // Its number, what it carries, and the layer.
-    pub fn refusal(self) -> Refusal
-        ensures { result ≡ told (refusal_of self) }
-    {
+impl Ground for CalendarRefusal {
+    ghost by_rules = { refusal_of };
+
+    ghost in_words = { words_of };
+
+    fn refusal(self) -> Refusal {
         let (number, carried) = match self {
             CalendarRefusal::Full { count } => (22, count as u64),
-            CalendarRefusal::NoEntry { number } => (23, number as u64),
+            CalendarRefusal::NoEntry { number } => (23, u64::from(number)),
         };
         Refusal {
             number,
@@ -29,13 +29,13 @@ impl CalendarRefusal {
         }
     }
 
-    // What is wrong.
-    fn words(self) -> &'static str
-        ensures { result.now ≡ words_of self }
-    {
+    fn write_words<W: fmt::Write>(self, f: &mut fmt::Formatter<W>) -> fmt::Result {
         match self {
-            CalendarRefusal::Full { .. } => "the calendar has no room",
-            CalendarRefusal::NoEntry { .. } => "no entry that can be struck has the stamp",
+            CalendarRefusal::Full { .. } => write!(f, "the calendar has no room"),
+            CalendarRefusal::NoEntry { .. } => write!(
+                f,
+                "no entry that can be struck has the stamp"
+            ),
         }
     }
 }
@@ -44,8 +44,6 @@ impl fmt::Display for CalendarRefusal {
     ghost output = { λ x. Some (calendar_refusal_text x) };
 
     fn fmt<W: fmt::Write>(&self, f: &mut fmt::Formatter<W>) -> fmt::Result {
-        let refusal = self.refusal();
-        let words = self.words();
-        write!(f, "{refusal}: {words}")
+        self.write_refusal(f)
     }
 }

@@ -1,10 +1,9 @@
 // Why a stamp is refused.
 ghost use Rattle.std.specs.Prelude.{◌≡◌, Some};
-ghost use Rattle.refusals.specs.Shown.{told};
 ghost use Rattle.events.specs.Refused.{refusal_of, words_of, stamp_refusal_text, stamp_text_refusal_text};
 ghost use Rattle.events.specs.declared.refusal.StampTextRefusal.TheVariants.{Range};
 
-use refusals::{Layer, Refusal};
+use refusals::{Ground, Layer, Refusal};
 use std::fmt;
 
 // Refusal 3, found by the site's layer: it carries 0 if the site is out of range, else 1 if the number is.
@@ -21,11 +20,20 @@ pub enum StampTextRefusal {
     Range(StampRefusal),
 }
 
-impl StampRefusal {
-    // Its number, what it carries, and the layer.
-    pub fn refusal(self) -> Refusal
-        ensures { result ≡ told (refusal_of self) }
-    {
+impl From<StampRefusal> for StampTextRefusal {
+    ghost from_gives = { λ x y. y ≡ Range x };
+
+    fn from(x: StampRefusal) -> StampTextRefusal {
+        StampTextRefusal::Range(x)
+    }
+}
+
+impl Ground for StampRefusal {
+    ghost by_rules = { refusal_of };
+
+    ghost in_words = { words_of };
+
+    fn refusal(self) -> Refusal {
         let carried = match self {
             StampRefusal::Site => 0,
             StampRefusal::Number => 1,
@@ -36,24 +44,11 @@ impl StampRefusal {
             layer: Layer::Site,
         }
     }
-}
 
-impl From<StampRefusal> for StampTextRefusal {
-    ghost from_gives = { λ x y. y ≡ Range x };
-
-    fn from(x: StampRefusal) -> StampTextRefusal {
-        StampTextRefusal::Range(x)
-    }
-}
-
-impl StampRefusal {
-    // What is wrong with the stamp.
-    fn words(self) -> &'static str
-        ensures { result.now ≡ words_of self }
-    {
+    fn write_words<W: fmt::Write>(self, f: &mut fmt::Formatter<W>) -> fmt::Result {
         match self {
-            StampRefusal::Site => "the stamp's site is not 1 to 8",
-            StampRefusal::Number => "the stamp's number is not 1 to 1000000",
+            StampRefusal::Site => write!(f, "the stamp's site is not 1 to 8"),
+            StampRefusal::Number => write!(f, "the stamp's number is not 1 to 1000000"),
         }
     }
 }
@@ -62,9 +57,7 @@ impl fmt::Display for StampRefusal {
     ghost output = { λ x. Some (stamp_refusal_text x) };
 
     fn fmt<W: fmt::Write>(&self, f: &mut fmt::Formatter<W>) -> fmt::Result {
-        let refusal = self.refusal();
-        let words = self.words();
-        write!(f, "{refusal}: {words}")
+        self.write_refusal(f)
     }
 }
 
@@ -73,10 +66,7 @@ impl fmt::Display for StampTextRefusal {
 
     fn fmt<W: fmt::Write>(&self, f: &mut fmt::Formatter<W>) -> fmt::Result {
         match self {
-            StampTextRefusal::Form => {
-                let words = "no stamp: write SITE.NUMBER, as 3.1";
-                write!(f, "{words}")
-            }
+            StampTextRefusal::Form => write!(f, "no stamp: write SITE.NUMBER, as 3.1"),
             StampTextRefusal::Range(x) => write!(f, "{x}"),
         }
     }

@@ -2,7 +2,7 @@
 -- Assumes nothing.
 use Rattle.std.specs.Prelude.{ℕ, min, List, ◌++◌, codes, decimal}
 use Rattle.rules.specs.Refusals.{Refusal, Unlawful, bad_entry}
-use Rattle.refusals.specs.Shown.{told, refusal_text}
+use Rattle.refusals.specs.Shown.{ground_text}
 use Rattle.kinds.specs.declared.refusal.EntryRefusal.{EntryRefusal}
 use Rattle.kinds.specs.declared.refusal.EntryRefusal.TheVariants as refused
 use Rattle.kinds.specs.declared.refusal.Field.{Field}
@@ -28,8 +28,8 @@ field_text Day = codes "the day is not 0 to 36524"
 field_text Letter = codes "a letter is not A to Z"
 
 abbrev pub words_of : EntryRefusal → List ℕ
-words_of (refused.Length l w) = codes ": the entry has " ++ (decimal l ++ (codes " bytes and needs " ++ decimal w))
-words_of (refused.Field f p) = codes ": " ++ field_text f
+words_of (refused.Length l w) = codes "the entry has " ++ (decimal l ++ (codes " bytes and needs " ++ decimal w))
+words_of (refused.Field f p) = field_text f
 
 abbrev pub entry_refusal_text : EntryRefusal → List ℕ
-entry_refusal_text x = refusal_text (told (refusal_of x)) ++ words_of x
+entry_refusal_text x = ground_text (refusal_of x) (words_of x)

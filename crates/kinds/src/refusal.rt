@@ -1,9 +1,8 @@
 // Why bytes are no entry.
-ghost use Rattle.std.specs.Prelude.{◌≡◌, Some};
-ghost use Rattle.refusals.specs.Shown.{told};
-ghost use Rattle.kinds.specs.Refused.{refusal_of, field_text, entry_refusal_text};
+ghost use Rattle.std.specs.Prelude.{Some};
+ghost use Rattle.kinds.specs.Refused.{refusal_of, field_text, words_of, entry_refusal_text};
 
-use refusals::{Layer, Refusal};
+use refusals::{Ground, Layer, Refusal};
 use std::fmt;
 
 // A field of an entry.
@@ -26,11 +25,29 @@ pub enum EntryRefusal {
     Field { field: Field, place: usize },
 }
 
-impl EntryRefusal {
-    // Its number, what it carries, and the layer.
-    pub fn refusal(self) -> Refusal
-        ensures { result ≡ told (refusal_of self) }
-    {
+impl fmt::Display for Field {
+    ghost output = { λ x. Some (field_text x) };
+
+    fn fmt<W: fmt::Write>(&self, f: &mut fmt::Formatter<W>) -> fmt::Result {
+        match self {
+            Field::Line => write!(f, "the line is not 1 to 999"),
+            Field::FirstDay => write!(f, "the first day is not 0 to 36524"),
+            Field::LastDay => write!(f, "the last day is not from the first day to 36524"),
+            Field::Work => write!(f, "the work is not 1, 2 or 3"),
+            Field::Crew => write!(f, "the crew is not 0 to 99"),
+            Field::Tag => write!(f, "the tag is not 1 or 3"),
+            Field::Day => write!(f, "the day is not 0 to 36524"),
+            Field::Letter => write!(f, "a letter is not A to Z"),
+        }
+    }
+}
+
+impl Ground for EntryRefusal {
+    ghost by_rules = { refusal_of };
+
+    ghost in_words = { words_of };
+
+    fn refusal(self) -> Refusal {
         let carried = match self {
             EntryRefusal::Length { length, width } => length.min(width),
             EntryRefusal::Field { place, .. } => place,
@@ -41,22 +58,13 @@ impl EntryRefusal {
             layer: Layer::Kind,
         }
     }
-}
 
-impl Field {
-    // What is wrong with the field.
-    fn words(self) -> &'static str
-        ensures { result.now ≡ field_text self }
-    {
+    fn write_words<W: fmt::Write>(self, f: &mut fmt::Formatter<W>) -> fmt::Result {
         match self {
-            Field::Line => "the line is not 1 to 999",
-            Field::FirstDay => "the first day is not 0 to 36524",
-            Field::LastDay => "the last day is not from the first day to 36524",
-            Field::Work => "the work is not 1, 2 or 3",
-            Field::Crew => "the crew is not 0 to 99",
-            Field::Tag => "the tag is not 1 or 3",
-            Field::Day => "the day is not 0 to 36524",
-            Field::Letter => "a letter is not A to Z",
+            EntryRefusal::Length { length, width } => {
+                write!(f, "the entry has {length} bytes and needs {width}")
+            }
+            EntryRefusal::Field { field, .. } => write!(f, "{field}"),
         }
     }
 }
@@ -65,16 +73,6 @@ impl fmt::Display for EntryRefusal {
     ghost output = { λ x. Some (entry_refusal_text x) };
 
     fn fmt<W: fmt::Write>(&self, f: &mut fmt::Formatter<W>) -> fmt::Result {
-        let refusal = self.refusal();
-        match self {
-            EntryRefusal::Length { length, width } => write!(
-                f,
-                "{refusal}: the entry has {length} bytes and needs {width}"
-            ),
-            EntryRefusal::Field { field, .. } => {
-                let words = field.words();
-                write!(f, "{refusal}: {words}")
-            }
-        }
+        self.write_refusal(f)
     }
 }

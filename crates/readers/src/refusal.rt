@@ -1,16 +1,18 @@
 // Why a sheet is turned away.
-ghost use Rattle.std.specs.Prelude.{◌≡◌};
+ghost use Rattle.std.specs.Prelude.{◌≡◌, Some};
 ghost use Rattle.refusals.specs.Shown.{told};
-ghost use Rattle.readers.specs.Refused.{head_place, refusal_of};
+ghost use Rattle.readers.specs.Refused.{refusal_of};
+ghost use Rattle.readers.specs.Words.{words_of, sheet_refusal_text};
 ghost use Rattle.rules.specs.Refusals.{plain, sheet};
 
 use kinds::EntryRefusal;
-use refusals::{Layer, Refusal};
+use refusals::{Ground, Layer, Refusal};
+use std::fmt;
 
-pub mod words;
+mod words;
 
-// The bytes of a sheet's head, in their order.
-#[derive(Clone, Copy)]
+// The bytes of a sheet's head, numbered by their places.
+#[derive(Clone, Copy, PartialEq, Eq, Debug)]
 pub enum HeadByte {
     Version,
     Sites,
@@ -20,7 +22,7 @@ pub enum HeadByte {
 }
 
 // What is wrong with a number of the table.
-#[derive(Clone, Copy)]
+#[derive(Clone, Copy, PartialEq, Eq, Debug)]
 pub enum NumberGround {
     // it is above 1,000,000
     Million,
@@ -31,7 +33,7 @@ pub enum NumberGround {
 }
 
 // A field of a record that is bad.
-#[derive(Clone, Copy)]
+#[derive(Clone, Copy, PartialEq, Eq, Debug)]
 pub enum RecordByte {
     First,
     StruckSite,
@@ -39,7 +41,7 @@ pub enum RecordByte {
 }
 
 // Refusals 4 to 8, found by the sheet's layer, and 20, found by the site's.
-#[derive(Clone, Copy)]
+#[derive(Clone, Copy, PartialEq, Eq, Debug)]
 pub enum SheetRefusal {
     // 4: the sheet ends early; it carries its length
     EndsEarly { length: usize },
@@ -57,21 +59,6 @@ pub enum SheetRefusal {
     BeyondOwnRow { origin: u8 },
 }
 
-impl HeadByte {
-    // Its place in the sheet.
-    fn place(self) -> usize
-        ensures { result ≡ head_place self }
-    {
-        match self {
-            HeadByte::Version => 0,
-            HeadByte::Sites => 1,
-            HeadByte::Writer => 2,
-            HeadByte::Addressee => 3,
-            HeadByte::Kind => 4,
-        }
-    }
-}
-
 // A refusal of the sheet's layer.
 fn by_sheet(number: u8, carried: usize) -> Refusal
     ensures { result ≡ told (plain number carried sheet) }
@@ -83,17 +70,19 @@ fn by_sheet(number: u8, carried: usize) -> Refusal
     }
 }
 
-impl SheetRefusal {
-    // Its number, what it carries, and the layer.
-    pub fn refusal(self) -> Refusal
-        ensures { result ≡ told (refusal_of self) }
-    {
+impl Ground for SheetRefusal {
+    ghost by_rules = { refusal_of };
+
+    ghost in_words = { words_of };
+
+    fn refusal(self) -> Refusal {
         match self {
             SheetRefusal::EndsEarly { length } => by_sheet(4, length),
-            SheetRefusal::Head(byte) => by_sheet(5, byte.place()),
+            SheetRefusal::Head(byte) => by_sheet(5, byte as usize),
             SheetRefusal::Table { place, .. } => by_sheet(6, place),
-            SheetRefusal::Record { place, .. } => by_sheet(7, place),
-            SheetRefusal::Entry { place, .. } => by_sheet(7, place),
+            SheetRefusal::Record { place, .. } | SheetRefusal::Entry { place, .. } => by_sheet(
+                7, place,
+            ),
             SheetRefusal::BytesBehind { place } => by_sheet(8, place),
             SheetRefusal::BeyondOwnRow { origin } => Refusal {
                 number: 20,
@@ -101,5 +90,34 @@ impl SheetRefusal {
                 layer: Layer::Site,
             },
         }
+    }
+
+    fn write_words<W: fmt::Write>(self, f: &mut fmt::Formatter<W>) -> fmt::Result {
+        match self {
+            SheetRefusal::EndsEarly { .. } => write!(
+                f,
+                "the sheet ends before all is there that its head and table announce"
+            ),
+            SheetRefusal::Head(byte) => write!(f, "{byte}"),
+            SheetRefusal::Table { ground, .. } => write!(f, "{ground}"),
+            SheetRefusal::Record { byte, .. } => write!(f, "{byte}"),
+            SheetRefusal::Entry { inner, .. } => write!(f, "the entry is not lawful: {inner}"),
+            SheetRefusal::BytesBehind { .. } => write!(
+                f,
+                "bytes stand behind the last record that the table announces"
+            ),
+            SheetRefusal::BeyondOwnRow { .. } => write!(
+                f,
+                "the table credits this site with events of that origin that it does not have"
+            ),
+        }
+    }
+}
+
+impl fmt::Display for SheetRefusal {
+    ghost output = { λ x. Some (sheet_refusal_text x) };
+
+    fn fmt<W: fmt::Write>(&self, f: &mut fmt::Formatter<W>) -> fmt::Result {
+        self.write_refusal(f)
     }
 }

@@ -37,3 +37,7 @@ layer_text Mailbox = codes "mailbox"
 abbrev pub refusal_text : Refusal → List ℕ
 refusal_text x =
     codes "refusal " ++ (decimal x.number ++ (codes " (" ++ (decimal x.carried ++ (codes ") by " ++ layer_text x.layer))))
+
+-- as: refusal 2 (7) by kind: the line is not 1 to 999
+abbrev pub ground_text : rules.Refusal → List ℕ → List ℕ
+ground_text x words = refusal_text (told x) ++ (codes ": " ++ words)

@@ -1,4 +1,4 @@
-ghost use Rattle.std.specs.Prelude.{◌≡◌, Some};
+ghost use Rattle.std.specs.Prelude.{Some};
 ghost use Rattle.refusals.specs.Shown.{refusal_text};
 
 use crate::layer::Layer;
@@ -16,9 +16,10 @@ impl fmt::Display for Refusal {
     ghost output = { λ x. Some (refusal_text x) };
 
     fn fmt<W: fmt::Write>(&self, f: &mut fmt::Formatter<W>) -> fmt::Result {
-        let number = self.number;
-        let carried = self.carried;
-        let layer = self.layer;
-        write!(f, "refusal {number} ({carried}) by {layer}")
+        write!(
+            f,
+            "refusal {} ({}) by {}",
+            self.number, self.carried, self.layer
+        )
     }
 }

@@ -4,7 +4,7 @@
 #[cfg(test)]
 mod sheet_tests {
     use kinds::{Booking, Kind, Notice};
-    use refusals::{Layer, Refusal};
+    use refusals::{Ground, Layer, Refusal};
     use sheets::{SheetRecords, check};
     use tables::{Row, Seat};
     use writing::write;

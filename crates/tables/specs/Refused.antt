@@ -1,8 +1,8 @@
 -- The refusal of a seat, as the rules have it, and in words.
 -- Assumes nothing.
-use Rattle.std.specs.Prelude.{ℕ, List, ◌++◌, codes}
+use Rattle.std.specs.Prelude.{ℕ, List, codes}
 use Rattle.rules.specs.Refusals.{Refusal, bad_site}
-use Rattle.refusals.specs.Shown.{told, refusal_text}
+use Rattle.refusals.specs.Shown.{ground_text}
 use Rattle.tables.specs.declared.refusal.SeatRefusal.{SeatRefusal}
 use Rattle.tables.specs.declared.refusal.SeatRefusal.TheVariants.{Sites, Own}
 
@@ -16,4 +16,4 @@ words_of Sites = codes "a group has 2 to 8 sites"
 words_of Own = codes "the site is not one of the group's"
 
 abbrev pub seat_refusal_text : SeatRefusal → List ℕ
-seat_refusal_text x = refusal_text (told (refusal_of x)) ++ (codes ": " ++ words_of x)
+seat_refusal_text x = ground_text (refusal_of x) (words_of x)

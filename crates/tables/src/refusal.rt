@@ -1,9 +1,8 @@
 // Why a site has no place in a group.
-ghost use Rattle.std.specs.Prelude.{◌≡◌, Some};
-ghost use Rattle.refusals.specs.Shown.{told};
+ghost use Rattle.std.specs.Prelude.{Some};
 ghost use Rattle.tables.specs.Refused.{refusal_of, words_of, seat_refusal_text};
 
-use refusals::{Layer, Refusal};
+use refusals::{Ground, Layer, Refusal};
 use std::fmt;
 
 // Refusal 1, found by the site's layer: it carries 0 if the group's size is out of range, else 1 if the site is not in the group.
@@ -13,11 +12,12 @@ pub enum SeatRefusal {
     Own,
 }
 
-impl SeatRefusal {
-    // Its number, what it carries, and the layer.
-    pub fn refusal(self) -> Refusal
-        ensures { result ≡ told (refusal_of self) }
-    {
+impl Ground for SeatRefusal {
+    ghost by_rules = { refusal_of };
+
+    ghost in_words = { words_of };
+
+    fn refusal(self) -> Refusal {
         let carried = match self {
             SeatRefusal::Sites => 0,
             SeatRefusal::Own => 1,
@@ -29,13 +29,10 @@ impl SeatRefusal {
         }
     }
 
-    // What is wrong.
-    fn words(self) -> &'static str
-        ensures { result.now ≡ words_of self }
-    {
+    fn write_words<W: fmt::Write>(self, f: &mut fmt::Formatter<W>) -> fmt::Result {
         match self {
-            SeatRefusal::Sites => "a group has 2 to 8 sites",
-            SeatRefusal::Own => "the site is not one of the group's",
+            SeatRefusal::Sites => write!(f, "a group has 2 to 8 sites"),
+            SeatRefusal::Own => write!(f, "the site is not one of the group's"),
         }
     }
 }
@@ -44,8 +41,6 @@ impl fmt::Display for SeatRefusal {
     ghost output = { λ x. Some (seat_refusal_text x) };
 
     fn fmt<W: fmt::Write>(&self, f: &mut fmt::Formatter<W>) -> fmt::Result {
-        let refusal = self.refusal();
-        let words = self.words();
-        write!(f, "{refusal}: {words}")
+        self.write_refusal(f)
     }
 }
