@@ -1,5 +1,6 @@
 pub mod Tests
 pub mod Order
+pub mod Keys
 pub mod Looked
 pub mod Mapped
 pub mod Shifted

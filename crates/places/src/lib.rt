@@ -1,11 +1,13 @@
 // Memory that the caller lends: stamped elements in order, one search for a stamp's place, shifting, and values in plain bytes.
 #![tactic(auto)]
 
+mod key;
 mod search;
 mod shift;
 mod stamped;
 mod value;
 
+pub use key::Key;
 pub use search::rank_of;
 pub use shift::{insert_at, remove_run};
 pub use stamped::Stamped;
