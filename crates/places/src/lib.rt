@@ -2,13 +2,14 @@
 #![tactic(auto)]
 
 mod key;
+mod rows;
 mod search;
 mod shift;
 mod stamped;
 mod value;
 
 pub use key::Key;
+pub use rows::{Full, Rows};
 pub use search::rank_of;
-pub use shift::{insert_at, remove_run};
 pub use stamped::Stamped;
 pub use value::value_of;
