@@ -1,48 +1,15 @@
 -- Edits of entries in stamp order, at the places that the search finds.
 -- Assumes nothing.
-use Rattle.std.proofs.Common.{◌≡◌, ℕ, zero, suc, ◌<◌, ◌≤◌, Bool, true, false, not, List, [], ◌∷◌, length, get_or, drop, set, sym, refl, ap, ◌∙◌, true≢false, arith}
+use Rattle.std.proofs.Common.{◌≡◌, ℕ, Bool, true, false, not, List, [], ◌∷◌, drop, set, sym, refl, ap, ◌∙◌, true≢false, arith}
 use Rattle.std.specs.List.{list_all, insert as inserted, remove}
 use Rattle.std.proofs.lemmas.Bool.Decides.{nat_tests}
 use Rattle.rules.specs.Stamps.{Stamped, below, same, insert}
 use Rattle.rules.specs.Entries.{join, leave, holds}
 use Rattle.places.specs.Ranks.{ascends, rank}
 use Rattle.places.proofs.Tests.{by_test, and_left, and_right, all_weaker, kept_all}
+use Rattle.places.specs.Edits.{leads}
 use Rattle.places.proofs.Order.{below_trans}
-use Rattle.calendars.specs.Rows.{leads}
-
-above : (u n v m : ℕ) → below v m u n ≡ false → same u n v m ≡ false → below u n v m ≡ true
-above u n v m p q = grind (arith, nat_tests)
-
-apart : (u n v m : ℕ) → below v m u n ≡ true → same u n v m ≡ false
-apart u n v m p = grind (arith, nat_tests)
-
-apart_up : (u n v m : ℕ) → below u n v m ≡ true → same u n v m ≡ false
-apart_up u n v m p = grind (arith, nat_tests)
-
-not_back : (u n v m : ℕ) → below v m u n ≡ true → below u n v m ≡ false
-not_back u n v m p = grind (arith, nat_tests)
-
-like : (u n v m w k : ℕ) → same u n v m ≡ true → below v m w k ≡ true → below u n w k ≡ true
-like u n v m w k p q = grind (arith, nat_tests)
-
-module _ {X : Type 0} (s n : X → ℕ) where
-  -- the element at a place leads what is left from there
-  pub leads_at : (u m : ℕ) (xs : List X) (i : ℕ) (d : X) → i < length xs → leads s n u m (drop i xs) ≡ same u m (s (get_or xs i d)) (n (get_or xs i d))
-  leads_at u m [] i d l = absurd (omega arith)
-  leads_at u m (x ∷ xs) zero d l = refl
-  leads_at u m (x ∷ xs) (suc i) d l = leads_at u m xs i d (omega arith)
-
-  pub leads_past : (u m : ℕ) (xs : List X) (i : ℕ) → length xs ≤ i → leads s n u m (drop i xs) ≡ false
-  leads_past u m [] zero l = refl
-  leads_past u m [] (suc i) l = refl
-  leads_past u m (x ∷ xs) zero l = absurd (omega arith)
-  leads_past u m (x ∷ xs) (suc i) l = leads_past u m xs i (omega arith)
-
-  pub leads_in : (u m : ℕ) (xs : List X) (i : ℕ) → leads s n u m (drop i xs) ≡ true → i < length xs
-  leads_in u m [] zero h = absurd (true≢false (sym h))
-  leads_in u m [] (suc i) h = absurd (true≢false (sym h))
-  leads_in u m (x ∷ xs) zero h = omega arith
-  leads_in u m (x ∷ xs) (suc i) h = let l = leads_in u m xs i h in omega arith
+use Rattle.places.proofs.Edited.{above, apart, apart_up, not_back, like}
 
 module _ {A : Type 0} where
   abbrev st : Stamped A → ℕ

@@ -1,75 +1,106 @@
--- What rows in stamp order mean after an edit at a place that the search finds.
+-- What rows in stamp order mean, and what they mean after an edit.
 -- Assumes nothing.
-use Rattle.std.proofs.Common.{◌≡◌, ℕ, suc, ◌+◌, Bool, true, false, not, List, [], ◌∷◌, ◌++◌, length, take, drop, set, sym, refl, ap, ◌∙◌, length-set}
-use Rattle.std.specs.List.{insert, remove}
+use Rattle.std.proofs.Common.{◌≡◌, ℕ, suc, ◌+◌, ◌<◌, ◌≤◌, Bool, true, false, cond, ltb, ◌||◌, List, [], ◌∷◌, ◌++◌, length, take, drop, set, sym, refl, ap, ◌∙◌, length-set, arith}
+use mathlib.Core.HLevel.{is_prop→PathP}
+use Rattle.std.specs.Coded.{Coded-set, coded_bool}
+use Rattle.std.specs.List.{list_all, insert, remove}
+use Rattle.std.proofs.lemmas.Bool.Decides.{nat_tests}
 use Rattle.std.proofs.lemmas.List.{take-map, drop-map, map-append, map-set, length-map}
 use Rattle.std.proofs.lemmas.List.Edits.{length-insert}
-use Rattle.rules.specs.Stamps.{Ascending, same, least, after}
+use Rattle.rules.specs.Stamps.{least, after}
 use Rattle.rules.specs.Records.{Entry}
 use Rattle.rules.specs.Entries.{join, leave, holds}
-use Rattle.rules.proofs.Ordered.{join_order, kept_order}
 use Rattle.kinds.specs.Formats.{Format}
 use Rattle.places.specs.Ranks.{ascends, rank}
-use Rattle.places.proofs.Order.{ascending_told, ascends_from, rank_le}
+use Rattle.places.specs.declared.rows.Rows.{Rows}
+use Rattle.places.specs.Used.{in_use}
+use Rattle.places.specs.Edits.{has, with_put, without}
+use Rattle.places.proofs.Tests.{by_test, all_append, all_take, all_drop, all_inserted, all_set}
+use Rattle.places.proofs.Order.{rank_le}
 use Rattle.places.proofs.Looked.{after_is}
-use Rattle.places.proofs.Mapped.{rank-map, ascends-map, inserted_map}
+use Rattle.places.proofs.Mapped.{rank-map, has-map, ascends-map, inserted_map}
 use Rattle.calendars.specs.declared.row.Row.{Row}
-use Rattle.calendars.specs.Rows.{site_of, number_of, entry_in, entries_in, leads}
+use Rattle.calendars.specs.declared.calendar.Calendar.{Calendar}
+use Rattle.calendars.specs.contracts.row.RowStamped.TheImpl as stamped
+use Rattle.calendars.specs.Rows.{site_of, number_of, sound, entry_in, entries_in}
 use Rattle.calendars.proofs.Edits.{join_over, join_new, leave_at, leave_none, holds_is}
+
+-- every stamp can still exist
+module _ (rs : List Row) (fine : list_all sound rs ≡ true) where
+  pub put_sound : (row : Row) → sound row ≡ true → list_all sound (with_put site_of number_of row rs) ≡ true
+  put_sound row h = by_test (has site_of number_of row.site row.number rs)
+      (λ t. rw t (all_set sound rs (rank site_of number_of row.site row.number rs) row h fine))
+      (λ f. rw f (all_inserted sound rs (rank site_of number_of row.site row.number rs) row h fine))
+
+  pub left_sound : (u m : ℕ) → list_all sound (without site_of number_of u m rs) ≡ true
+  left_sound u m =
+      let r = rank site_of number_of u m rs in
+      by_test (has site_of number_of u m rs)
+      (λ t. rw t (all_append sound (take r rs) (drop (suc r) rs) (all_take sound r rs fine) (all_drop sound (suc r) rs fine)))
+      (λ f. rw f fine)
 
 module _ {V : Type 0} (f : Format V) (rs : List Row) where
   abbrev zs : List (Entry V)
   zs = entries_in f rs
 
-  leads-map : (u m : ℕ) (xs : List Row) → leads site_of number_of u m xs ≡ leads (λ x. x.0) (λ x. x.1) u m (entries_in f xs)
-  leads-map u m [] = refl
-  leads-map u m (x ∷ xs) = refl
+  abbrev place : (u m : ℕ) → ℕ
+  place u m = rank site_of number_of u m rs
 
-  pub after_rows : (u m i : ℕ) → i ≡ rank site_of number_of u (m + 1) rs → least (drop i zs) ≡ after u m zs
-  after_rows u m i e = ap (λ k. least (drop k zs)) (e ∙ rank-map (entry_in f) (λ x. x.0) (λ x. x.1) u (m + 1) rs) ∙ sym (after_is u m zs)
+  abbrev spot : (u m : ℕ) → ℕ
+  spot u m = rank (λ x. x.0) (λ x. x.1) u m zs
+
+  there : (u m : ℕ) → place u m ≡ spot u m
+  there u m = rank-map (entry_in f) (λ x. x.0) (λ x. x.1) u m rs
+
+  pub after_rows : (u m : ℕ) → least (entries_in f (drop (place u (m + 1)) rs)) ≡ after u m zs
+  after_rows u m = ap least (sym (drop-map (entry_in f) (place u (m + 1)) rs)) ∙ ap (λ k. least (drop k zs)) (there u (m + 1)) ∙ sym (after_is u m zs)
+
+  has_there : (u m : ℕ) → has (λ x. x.0) (λ x. x.1) u m zs ≡ has site_of number_of u m rs
+  has_there u m = sym (has-map (entry_in f) (λ x. x.0) (λ x. x.1) u m rs)
 
   module _ (asc : ascends site_of number_of rs ≡ true) where
     rises : ascends (λ x. x.0) (λ x. x.1) zs ≡ true
     rises = sym (ascends-map (entry_in f) (λ x. x.0) (λ x. x.1) rs) ∙ asc
 
-    -- rows that mean entries in order are in order
-    in_order : (ws : List Row) (es : List (Entry V)) → entries_in f ws ≡ es → Ascending es → ascends site_of number_of ws ≡ true
-    in_order ws es e a = ascends-map (entry_in f) (λ x. x.0) (λ x. x.1) ws ∙ ap (ascends (λ x. x.0) (λ x. x.1)) e ∙ ascends_from es a
+    pub holds_there : (u m : ℕ) → has site_of number_of u m rs ≡ holds u m zs
+    holds_there u m = sym (has_there u m) ∙ sym (holds_is u m zs rises)
 
-    pub join_rises : (e : Entry V) (ws : List Row) → entries_in f ws ≡ join e zs → ascends site_of number_of ws ≡ true
-    join_rises e ws q = in_order ws (join e zs) q (join_order e zs (ascending_told zs rises))
+    pub joined : (row : Row) → entries_in f (with_put site_of number_of row rs) ≡ join (entry_in f row) zs
+    joined row = by_test (has site_of number_of row.site row.number rs)
+        (λ t. rw t (map-set (entry_in f) rs (place row.site row.number) row ∙ ap (λ k. set zs k (entry_in f row)) (there row.site row.number)
+        ∙ join_over (entry_in f row) zs rises (has_there row.site row.number ∙ t)))
+        (λ e. rw e (inserted_map (entry_in f) rs (place row.site row.number) row ∙ ap (λ k. insert zs k (entry_in f row)) (there row.site row.number)
+        ∙ join_new (entry_in f row) zs rises (has_there row.site row.number ∙ e)))
 
-    pub leave_rises : (u m : ℕ) (ws : List Row) → entries_in f ws ≡ leave u m zs → ascends site_of number_of ws ≡ true
-    leave_rises u m ws q = in_order ws (leave u m zs) q (kept_order (λ x. not (same u m x.0 x.1)) zs (ascending_told zs rises))
+    pub left_over : (u m : ℕ) → entries_in f (without site_of number_of u m rs) ≡ leave u m zs
+    left_over u m = by_test (has site_of number_of u m rs)
+        (λ t. rw t (map-append (entry_in f) (take (place u m) rs) (drop (suc (place u m)) rs)
+        ∙ (λ i. sym (take-map (entry_in f) (place u m) rs) i ++ sym (drop-map (entry_in f) (suc (place u m)) rs) i)
+        ∙ ap (remove zs) (there u m) ∙ leave_at u m zs rises (has_there u m ∙ t)))
+        (λ e. rw e (sym (leave_none u m zs rises (has_there u m ∙ e))))
 
-    module _ (u m i : ℕ) (found : i ≡ rank site_of number_of u m rs) where
-      place : i ≡ rank (λ x. x.0) (λ x. x.1) u m zs
-      place = found ∙ rank-map (entry_in f) (λ x. x.0) (λ x. x.1) u m rs
+    -- how many there are when a row has joined
+    pub joined_count : (row : Row) → length (join (entry_in f row) zs) ≡ cond (has site_of number_of row.site row.number rs) (length rs) (length rs + 1)
+    joined_count row = by_test (has site_of number_of row.site row.number rs)
+        (λ t. rw t (sym (ap length (join_over (entry_in f row) zs rises (has_there row.site row.number ∙ t)))
+        ∙ length-set zs (spot row.site row.number) (entry_in f row) ∙ length-map rs (entry_in f)))
+        (λ e. rw e (sym (ap length (join_new (entry_in f row) zs rises (has_there row.site row.number ∙ e)))
+        ∙ length-insert zs (spot row.site row.number) (entry_in f row) (rank_le (λ x. x.0) (λ x. x.1) row.site row.number zs)
+        ∙ ap (λ n. n + 1) (length-map rs (entry_in f))))
 
-      there : (b : Bool) → b ≡ leads site_of number_of u m (drop i rs) → leads (λ x. x.0) (λ x. x.1) u m (drop (rank (λ x. x.0) (λ x. x.1) u m zs) zs) ≡ b
-      there b h = ap (λ k. leads (λ x. x.0) (λ x. x.1) u m (drop k zs)) (sym place)
-          ∙ ap (leads (λ x. x.0) (λ x. x.1) u m) (drop-map (entry_in f) i rs) ∙ sym (leads-map u m (drop i rs)) ∙ sym h
+-- a row has room
+pub has_room : (b : Bool) (j l r : ℕ) → j ≡ cond b l (l + 1) → l ≤ r → true ≡ (b || ltb l r) → j ≤ r
+has_room b j l r e w h = grind (arith, nat_tests)
 
-      pub holds_there : (b : Bool) → b ≡ leads site_of number_of u m (drop i rs) → b ≡ holds u m zs
-      holds_there b h = sym (holds_is u m zs rises ∙ there b h)
+-- and has none
+pub has_none : (b : Bool) (j l r : ℕ) → j ≡ cond b l (l + 1) → false ≡ (b || ltb l r) → (r < j) × (j ≡ l + 1)
+has_none b j l r e h = (grind (arith, nat_tests), grind (arith, nat_tests))
 
-      pub wrote : (row : Row) (v : V) → entry_in f row ≡ (u, m, v) → true ≡ leads site_of number_of u m (drop i rs) → entries_in f (set rs i row) ≡ join (u, m, v) zs
-      wrote row v keeps h = map-set (entry_in f) rs i row ∙ (λ t. set zs (place t) (keeps t)) ∙ join_over (u, m, v) zs rises (there true h)
-
-      pub went_in : (row : Row) (v : V) → entry_in f row ≡ (u, m, v) → false ≡ leads site_of number_of u m (drop i rs) → entries_in f (insert rs i row) ≡ join (u, m, v) zs
-      went_in row v keeps h = inserted_map (entry_in f) rs i row ∙ (λ t. insert zs (place t) (keeps t)) ∙ join_new (u, m, v) zs rises (there false h)
-
-      pub same_count : (v : V) → true ≡ leads site_of number_of u m (drop i rs) → length (join (u, m, v) zs) ≡ length rs
-      same_count v h = sym (ap length (join_over (u, m, v) zs rises (there true h))) ∙ length-set zs (rank (λ x. x.0) (λ x. x.1) u m zs) (u, m, v) ∙ length-map rs (entry_in f)
-
-      pub one_more : (v : V) → false ≡ leads site_of number_of u m (drop i rs) → length (join (u, m, v) zs) ≡ length rs + 1
-      one_more v h = sym (ap length (join_new (u, m, v) zs rises (there false h)))
-          ∙ length-insert zs (rank (λ x. x.0) (λ x. x.1) u m zs) (u, m, v) (rank_le (λ x. x.0) (λ x. x.1) u m zs) ∙ ap (λ n. n + 1) (length-map rs (entry_in f))
-
-      pub went_out : true ≡ leads site_of number_of u m (drop i rs) → entries_in f (remove rs i) ≡ leave u m zs
-      went_out h = map-append (entry_in f) (take i rs) (drop (suc i) rs)
-          ∙ (λ t. sym (take-map (entry_in f) i rs) t ++ sym (drop-map (entry_in f) (suc i) rs) t)
-          ∙ ap (remove zs) place ∙ leave_at u m zs rises (there true h)
-
-      pub stayed : false ≡ leads site_of number_of u m (drop i rs) → zs ≡ leave u m zs
-      stayed h = sym (leave_none u m zs rises (there false h))
+-- a calendar whose rows have not changed is the same
+pub unchanged : {V : Type 0} (a : Calendar V) (rows : Rows Row 4096 stamped.ghosts) → rows ≡ a.rows → (h : list_all sound (in_use rows) ≡ true)
+    → ◌≡◌ {A = Calendar V} (record { rows = rows; kind = a.kind; stamped = h }) a
+unchanged a rows e h = λ i. record {
+  rows = e i;
+  kind = a.kind;
+  stamped = is_prop→PathP (λ j. list_all sound (in_use (e j)) ≡ true) (λ j. Coded-set coded_bool (list_all sound (in_use (e j))) true) h a.stamped i;
+}

@@ -9,10 +9,10 @@ use Rattle.kinds.specs.Formats.{Format}
 use Rattle.places.specs.Ranks.{possible, ascends}
 use Rattle.places.proofs.Order.{ascending_told, all_possible}
 use Rattle.places.proofs.Mapped.{all_map, ascends-map}
+use Rattle.places.specs.Used.{in_use}
 use Rattle.calendars.specs.declared.row.Row.{Row}
-use Rattle.calendars.specs.declared.rows.calendar.Calendar.{Calendar}
+use Rattle.calendars.specs.declared.calendar.Calendar.{Calendar}
 use Rattle.calendars.specs.Rows.{site_of, number_of, sound, entry_in, entries_in}
-use Rattle.calendars.specs.Used.{in_use}
 use Rattle.calendars.specs.Meanings.{Meaning, Lawful}
 
 pub lawful_entries : {V : Type 0} (f : Format V) (rs : List Row) (M : ℕ) → list_all sound rs ≡ true → ascends site_of number_of rs ≡ true → length rs ≤ M → length rs ≤ 4096
@@ -32,7 +32,7 @@ calendar_means f c =
       entries = entries_in f (in_use c.rows);
       room = room (length c.rows.rows.now);
       lawful =
-          let e = length-take-le c.rows.len c.rows.rows.now c.within in
-          lawful_entries f (in_use c.rows) (length c.rows.rows.now) c.stamped c.ascending
-          (subst (λ n. n ≤ length c.rows.rows.now) (sym e) c.within) (subst (λ n. n ≤ 4096) (sym e) c.few);
+          let e = length-take-le c.rows.len c.rows.rows.now c.rows.within in
+          lawful_entries f (in_use c.rows) (length c.rows.rows.now) c.stamped c.rows.ascending
+          (subst (λ n. n ≤ length c.rows.rows.now) (sym e) c.rows.within) (subst (λ n. n ≤ 4096) (sym e) c.rows.few);
     }

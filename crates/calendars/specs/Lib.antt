@@ -1,7 +1,6 @@
 pub mod Refused
 pub mod Rows
 pub mod Told
-pub mod Used
 pub mod Meanings
 pub mod Calendars
 pub mod Memory

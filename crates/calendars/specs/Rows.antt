@@ -1,8 +1,7 @@
 -- Entries in plain rows. Every row keeps one: bytes that are no entry stand for the kind's sample.
 -- Assumes nothing.
-use Rattle.std.specs.Prelude.{ℕ, Bool, false, cond, List, [], ◌∷◌, map, Some, None, Option}
+use Rattle.std.specs.Prelude.{ℕ, Bool, cond, List, [], map, Some, None, Option}
 use Rattle.rules.specs.Records.{Entry}
-use Rattle.rules.specs.Stamps.{same}
 use Rattle.kinds.specs.Formats.{Format, padded}
 use Rattle.places.specs.Ranks.{possible}
 use Rattle.places.specs.Values.{value_in}
@@ -37,9 +36,3 @@ entry_read f r = cond (sound r) (Some (entry_in f r)) None
 -- the row that keeps a value under u.n
 abbrev pub row_of : {V : Type 0} → Format V → (u n : ℕ) → V → Row
 row_of f u n v = record { site = u; number = n; bytes = padded (f.encoded v) }
-
--- the first of elements with a site and a number has the stamp u.m
-module _ {X : Type 0} (s n : X → ℕ) where
-  abbrev pub leads : (u m : ℕ) → List X → Bool
-  leads u m [] = false
-  leads u m (x ∷ xs) = same u m (s x) (n x)

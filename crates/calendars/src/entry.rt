@@ -33,9 +33,7 @@ impl Row {
     pub fn entry<V: Kind>(self) -> Option<Entry<V>>
         ensures { shown result ≡ entry_read V.Kind.format self }
     {
-        let Ok(at) = Stamp::new(self.site, self.number) else {
-            return None;
-        };
+        let at = Stamp::new(self.site, self.number).ok()?;
         let value = value_of(&self.bytes);
         Some(Entry { at, value })
     }

@@ -1,6 +1,6 @@
 ghost use Rattle.std.specs.Prelude.{◌≡◌};
 
-use places::Stamped;
+use places::{Key, Stamped};
 
 // A row of a calendar: a stamp and an entry, in plain numbers.
 #[derive(Clone, Copy)]
@@ -15,11 +15,10 @@ impl Stamped for Row {
 
     ghost number = { λ r. r.number };
 
-    fn stamp_site(&self) -> u8 {
-        self.site
-    }
-
-    fn stamp_number(&self) -> u32 {
-        self.number
+    fn key(&self) -> Key {
+        Key {
+            site: self.site,
+            number: self.number,
+        }
     }
 }

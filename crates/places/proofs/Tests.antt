@@ -1,7 +1,8 @@
 -- Tests: both parts of a conjunction, and tests of every element of a list.
 -- Assumes nothing.
-use Rattle.std.proofs.Common.{◌≡◌, ℕ, zero, suc, ◌<◌, Bool, true, false, not, ◌&&◌, List, [], ◌∷◌, ◌++◌, length, get_or, take, drop, set, filter, refl, arith}
+use Rattle.std.proofs.Common.{◌≡◌, ℕ, zero, suc, ◌<◌, Bool, true, false, not, ◌&&◌, List, [], ◌∷◌, ◌++◌, length, get_or, take, drop, set, filter, refl, ◌∙◌, arith}
 use Rattle.std.specs.List.{insert, list_all}
+use Rattle.std.proofs.lemmas.List.Folds.{list_all-append}
 use Rattle.std.proofs.lemmas.Bool.{and_parts, and_from, not-true}
 
 -- a test's two ways
@@ -32,8 +33,7 @@ module _ {X : Type 0} where
       (all_two p q r xs w (and_right (p x) (list_all p xs) h) (and_right (q x) (list_all q xs) k))
 
   pub all_append : (p : X → Bool) (xs ys : List X) → list_all p xs ≡ true → list_all p ys ≡ true → list_all p (xs ++ ys) ≡ true
-  all_append p [] ys h k = k
-  all_append p (x ∷ xs) ys h k = and_from (p x) (list_all p (xs ++ ys)) (and_left (p x) (list_all p xs) h) (all_append p xs ys (and_right (p x) (list_all p xs) h) k)
+  all_append p xs ys h k = list_all-append p xs ys ∙ (λ i. h i && k i)
 
   pub all_take : (p : X → Bool) (i : ℕ) (xs : List X) → list_all p xs ≡ true → list_all p (take i xs) ≡ true
   all_take p zero xs h = refl

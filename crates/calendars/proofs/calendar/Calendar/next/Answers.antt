@@ -1,0 +1,25 @@
+use Rattle.std.proofs.Common.{◌≡◌, ◌+◌, true, drop, sym, ap, ◌∙◌, subst}
+use Rattle.std.specs.List.{list_all}
+use Rattle.rules.specs.Stamps.{least}
+use Rattle.places.specs.Ranks.{rank}
+use Rattle.places.specs.Used.{in_use}
+use Rattle.places.proofs.Tests.{all_drop}
+use Rattle.calendars.specs.Rows.{site_of, number_of, sound, entries_in}
+use Rattle.calendars.proofs.Rowed.{after_rows}
+use Rattle.calendars.proofs.calendar.Calendar.next.Goals as goal
+
+pub first_of-requires : goal.first_of-requires
+first_of-requires g c =
+    let s = c.args.self.now in
+    let rs = in_use s.rows in
+    subst (λ zs. list_all sound zs ≡ true) (sym c.rows_from.ensures)
+    (all_drop sound (rank site_of number_of c.site.result (c.number.result + 1) rs) rs s.stamped)
+
+pub returns : goal.returns
+returns g c =
+    let rs = in_use c.args.self.now.rows in
+    let f = g.V.Kind.format in
+    c.first_of.ensures
+    ∙ ap (λ zs. least (entries_in f zs)) c.rows_from.ensures
+    ∙ (λ t. least (entries_in f (drop (rank site_of number_of (c.site.ensures.value t) (c.number.ensures.value t + 1) rs) rs)))
+    ∙ after_rows f rs c.args.at.site c.args.at.number
