@@ -15,6 +15,7 @@ pub struct Seat {
 impl Seat {
     ghost use Rattle.std.specs.Prelude.{◌≡◌};
     ghost use Rattle.rules.specs.Sites.{site_checked};
+    ghost use Rattle.rules.specs.Stamps.{within};
     ghost use Rattle.tables.specs.Seats.{seat_ranged, seat_shown, seat_told};
 
     // The place of a site in a group of so many.
@@ -22,12 +23,19 @@ impl Seat {
         ensures value { seat_shown result ≡ seat_ranged sites own }
         ensures rules { seat_told result ≡ site_checked sites own }
     {
-        if sites < 2 || sites > 8 {
+        if !(2..=8).contains(&sites) {
             return Err(SeatRefusal::Sites);
         }
-        if own < 1 || own > sites {
+        if !(1..=sites).contains(&own) {
             return Err(SeatRefusal::Own);
         }
         Ok(Seat { sites, own })
+    }
+
+    // Whether a site is one of the group's.
+    pub fn has(self, site: u8) -> bool
+        ensures { result ≡ within self.sites site }
+    {
+        (1..=self.sites).contains(&site)
     }
 }

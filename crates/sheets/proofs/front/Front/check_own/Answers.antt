@@ -3,17 +3,18 @@ use Rattle.std.proofs.lemmas.Bool.{lt-ltb, le-ltb}
 use Rattle.std.specs.Option.{option_map}
 use Rattle.rules.specs.Results.{none_of}
 use Rattle.tables.specs.declared.table.Row.{Row}
-use Rattle.tables.specs.Numbers.{in_row, number}
+use Rattle.tables.specs.Numbers.{in_row}
+use Rattle.sheets.specs.Front.{front_table}
 use Rattle.readers.specs.declared.refusal.SheetRefusal.TheVariants.{BeyondOwnRow}
 use Rattle.sheets.specs.Judged.{own_judged}
 use Rattle.sheets.proofs.Steps.{row_here, row_on}
-use Rattle.sheets.proofs.checking.check_own.Goals as goal
+use Rattle.sheets.proofs.front.Front.check_own.Goals as goal
 
 pub returns-then-number : goal.returns-then-number
 returns-then-number c =
-    let S = number c.args.table.now in
-    let N = c.args.seat.sites in
-    let i = c.args.seat.own in
+    let S = front_table c.args.self.now in
+    let N = c.args.self.now.seat.sites in
+    let i = c.args.self.now.seat.own in
     let own = in_row c.in-Some.own in
     let u = c.loop-origin.origin in
     let p : ℕ × ℕ → Bool = λ x. ltb (own x.1) (S x.0 x.1) in
@@ -23,10 +24,10 @@ returns-then-number c =
 
 pub loop-origin-preserved : goal.loop-origin-preserved
 loop-origin-preserved c =
-    let S = number c.args.table.now in
-    let i = c.args.seat.own in
+    let S = front_table c.args.self.now in
+    let i = c.args.self.now.seat.own in
     let own = in_row c.in-Some.own in
     let u = c.loop-origin.origin in
     let p : ℕ × ℕ → Bool = λ x. ltb (own x.1) (S x.0 x.1) in
     let h : S i u ≤ own u = omega (arith, c.number.ensures, c.number-in-loop-origin.ensures) in
-    sym (row_on p c.args.seat.sites i u (omega arith) (le-ltb _ _ h)) ∙ c.loop-origin.invariant
+    sym (row_on p c.args.self.now.seat.sites i u (omega arith) (le-ltb _ _ h)) ∙ c.loop-origin.invariant
