@@ -1,6 +1,6 @@
 -- The code's answers of reading, as the rules have them.
 -- Assumes nothing.
-use Rattle.std.specs.Prelude.{◌≡◌, ℕ, ◌+◌, ◌^◌, ◌<◌, length, Ok, Err, Result}
+use Rattle.std.specs.Prelude.{◌≡◌, ℕ, ◌+◌, ◌^◌, ◌<◌, List, length, Ok, Err, Result}
 use Rattle.rules.specs.Stamps as stamps
 use Rattle.rules.specs.Records as records
 use Rattle.rules.specs.Reading.{entry_part, stamp_part}
@@ -8,6 +8,7 @@ use Rattle.rules.specs.Reading as reading
 use Rattle.events.specs.declared.stamp.Stamp.{Stamp}
 use Rattle.events.specs.declared.record.Body.{Body}
 use Rattle.events.specs.Told.{stamp_of, body_of}
+use Rattle.readers.specs.declared.reader.Part.{Part}
 use Rattle.readers.specs.declared.reader.RecordPart.{RecordPart}
 use Rattle.readers.specs.declared.reader.RecordPart.TheVariants.{Booked, Struck}
 use Rattle.readers.specs.declared.refusal.SheetRefusal.{SheetRefusal}
@@ -16,6 +17,11 @@ use Rattle.readers.specs.declared.refusal.SheetRefusal.{SheetRefusal}
 abbrev pub part_of : RecordPart → reading.Part
 part_of (Booked p) = entry_part p.bytes.now p.place
 part_of (Struck p) = stamp_part p.bytes.now p.place
+
+-- bytes that were cut out, as a part of this form, and the place behind them
+abbrev pub cut_as : (List ℕ → ℕ → reading.Part) → Result Part SheetRefusal → ℕ → Result (reading.Part × ℕ) SheetRefusal
+cut_as f (Ok p) end = Ok (f p.bytes.now p.place, end)
+cut_as f (Err x) end = Err x
 
 -- a part, and the place behind it
 abbrev pub parted : Result RecordPart SheetRefusal → ℕ → Result (reading.Part × ℕ) SheetRefusal

@@ -3,7 +3,8 @@ use Rattle.std.proofs.Common.{◌≡◌, ℕ, zero, suc, ◌+◌, ◌<◌, max, 
 use Rattle.std.proofs.lemmas.Bool.{cases_lt, cases_order, lt-ltb, le-ltb, lt-leb, eq-eqb, ne_eqb, cond-true, cond-false, and_left, and_right}
 use Rattle.rules.specs.Stamps.{within}
 use Rattle.rules.specs.Tables.{Table, restricted}
-use Rattle.tables.specs.Numbers.{row_with, rows_raised}
+use Rattle.tables.specs.Numbers.{row_with, row_raised, rows_raised}
+use Rattle.tables.proofs.Cells.{raised_more}
 
 -- the numbers below u
 abbrev pub row_front : (ℕ → ℕ) → ℕ → ℕ → ℕ
@@ -65,7 +66,7 @@ module _ (N : ℕ) (T : Table) where
           ]
 
 -- one number more
-pub row_more : (r : ℕ → ℕ) (u : ℕ) → row_with (row_front r u) u (r u) ≡ row_front r (u + 1)
+row_more : (r : ℕ → ℕ) (u : ℕ) → row_with (row_front r u) u (r u) ≡ row_front r (u + 1)
 row_more r u = λ j w. at w j
   where
     at : (w : ℕ) → row_with (row_front r u) u (r u) w ≡ row_front r (u + 1) w
@@ -86,3 +87,10 @@ row_more r u = λ j w. at w j
                     ∙ sym (cond-false (ltb w (u + 1)) (r w) 0 (le-ltb w (u + 1) (omega arith)))
               ]
         ]
+
+pub row_step : (f g r : ℕ → ℕ) (u n : ℕ) → f ≡ row_front r u → n ≡ r u → g ≡ row_with f u n → g ≡ row_front r (u + 1)
+row_step f g r u n front number set = set ∙ (λ j. row_with (front j) u (number j)) ∙ row_more r u
+
+-- one row more
+pub table_step : (S S' T : Table) (k : ℕ) (r : ℕ → ℕ) → S ≡ rows_raised (λ _ _. 0) k T → r ≡ T k → S' ≡ row_raised S k r → S' ≡ rows_raised (λ _ _. 0) (k + 1) T
+table_step S S' T k r front row raised = raised ∙ (λ j. row_raised (front j) k (row j)) ∙ raised_more (λ _ _. 0) T k

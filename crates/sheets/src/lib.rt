@@ -3,6 +3,7 @@
 
 mod checked;
 mod checking;
+mod front;
 mod records;
 
 pub use checked::Checked;

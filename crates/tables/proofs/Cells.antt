@@ -1,11 +1,11 @@
 -- The numbers of rows and tables: what one change leaves.
-use Rattle.std.proofs.Common.{◌≡◌, ℕ, zero, suc, ◌+◌, ◌-◌, ◌<◌, ◌≤◌, max, cond, eqb, ltb, List, length, get_or, set, sym, refl, ap, ◌∙◌, inl, inr, arith, get_or-set_other, get_or-set_same}
+use Rattle.std.proofs.Common.{◌≡◌, ℕ, zero, suc, ◌+◌, ◌<◌, max, Bool, true, false, cond, eqb, ltb, List, replicate, length, get_or, set, Some, None, sym, refl, ap, ◌∙◌, inl, inr, arith, get_or-set_other, get_or-set_same}
 use Rattle.std.proofs.lemmas.List.{get_or_past, get_or_default}
-use Rattle.std.proofs.lemmas.Bool.{cases_eq, cases_lt, cases_order, lt-ltb, le-ltb, eq-eqb, ne_eqb, cond-true, cond-false}
+use Rattle.std.proofs.lemmas.Bool.{cases_eq, cases_lt, cases_order, lt-ltb, le-ltb, eq-eqb, ne_eqb, ltb-true, ltb-false, cond-true, cond-false}
 use Rattle.rules.specs.Tables.{Table}
 use Rattle.tables.specs.declared.table.Row.{Row}
 use Rattle.tables.specs.declared.table.TimeTable.{TimeTable}
-use Rattle.tables.specs.Numbers.{blank, number_in, in_row, in_rows, row_with, row_raised, rows_raised, number}
+use Rattle.tables.specs.Numbers.{index_of, blank, number_in, in_row, in_rows, row_raised, rows_raised, number}
 
 pub row_past : (ns : List ℕ) (u : ℕ) → length ns < u → number_in ns u ≡ 0
 row_past ns zero h = refl
@@ -31,78 +31,57 @@ pub rows_past : (rs : List Row) (k u : ℕ) → length rs < k → in_rows rs k u
 rows_past rs zero u h = refl
 rows_past rs (suc k) u h = ap (λ (r : Row). number_in r.numbers u) (get_or_past rs k blank (omega arith)) ∙ blank_past u
 
--- one number of a row
-set_row : (ns : List ℕ) (u n : ℕ) → 1 ≤ u → u ≤ length ns → (w : ℕ) → number_in (set ns (u - 1) n) w ≡ cond (eqb w u) n (number_in ns w)
-set_row ns zero n a b w = absurd (omega arith)
-set_row ns (suc u) n a b zero = sym (cond-false (eqb 0 (suc u)) n 0 (ne_eqb 0 (suc u) (omega arith)))
-set_row ns (suc u) n a b (suc w) =
-    let e : suc u - 1 ≡ u = omega arith in
-    ap (λ k. get_or (set ns k n) w 0) e
-    ∙ elim (cases_eq w u) [
-      | inl q ↦
-          ap (λ k. get_or (set ns u n) k 0) q ∙ get_or-set_same ns u n 0 (omega arith)
-          ∙ sym (cond-true (eqb (suc w) (suc u)) n (get_or ns w 0) (eq-eqb (suc w) (suc u) (ap suc q)))
-      | inr d ↦
-          get_or-set_other ns u w n 0 d
-          ∙ sym (cond-false (eqb (suc w) (suc u)) n (get_or ns w 0) (ne_eqb (suc w) (suc u) (λ q. d (omega arith))))
-    ]
-
--- a row with one number set
-pub row_set : (ns : List ℕ) (u n : ℕ) → 1 ≤ u → u ≤ length ns → number_in (set ns (u - 1) n) ≡ row_with (number_in ns) u n
-row_set ns u n a b = λ j w. set_row ns u n a b w j
-
--- a table with one row set
-pub rows-set : (rs : List Row) (k : ℕ) (r : Row) → 1 ≤ k → k ≤ length rs →
-    in_rows (set rs (k - 1) r) ≡ (λ a w. cond (eqb a k) (in_row r w) (in_rows rs a w))
-rows-set rs k r a b = λ j x w. at k x w a b j
+-- the row of a site that has no index
+pub rows_outside : (rs : List Row) (k : ℕ) → length rs ≡ 8 → None ≡ index_of k → (λ _. 0) ≡ in_rows rs k
+rows_outside rs zero l e = refl
+rows_outside rs (suc k) l e = by (ltb k 8) refl e
   where
-    at : (k a w : ℕ) → 1 ≤ k → k ≤ length rs → in_rows (set rs (k - 1) r) a w ≡ cond (eqb a k) (in_row r w) (in_rows rs a w)
-    at zero a w ka kb = absurd (omega arith)
-    at (suc k) zero w ka kb = sym (cond-false (eqb 0 (suc k)) (in_row r w) 0 (ne_eqb 0 (suc k) (omega arith)))
-    at (suc k) (suc a) w ka kb =
-        let q : suc k - 1 ≡ k = omega arith in
-        ap (λ i. in_row (get_or (set rs i r) a blank) w) q
-        ∙ elim (cases_eq a k) [
+    by : (b : Bool) → ltb k 8 ≡ b → None ≡ cond b (Some k) None → (λ _. 0) ≡ in_rows rs (suc k)
+    by true q e = let z : ◌≡◌ {A = ℕ} 0 1 = cc in absurd (omega arith)
+    by false q e = λ j u. sym (rows_past rs (suc k) u (omega (arith, ltb-false k 8 q))) j
+
+-- rows of which each credits nothing
+pub rows_blank : (r : Row) (n : ℕ) → in_row r ≡ (λ _. 0) → in_rows (replicate n r) ≡ (λ _ _. 0)
+rows_blank r n e = λ j k u. row k u j
+  where
+    each : (n i u : ℕ) → in_row (get_or (replicate n r) i blank) u ≡ 0
+    each zero i u = blank_past u
+    each (suc n) zero u = λ j. e j u
+    each (suc n) (suc i) u = each n i u
+
+    row : (k u : ℕ) → in_rows (replicate n r) k u ≡ 0
+    row zero u = refl
+    row (suc k) u = each n k u
+
+-- a site that has an index
+pub index_is : (k i : ℕ) → Some i ≡ index_of k → (k ≡ suc i) × (i < 8)
+index_is zero i e = let z : ◌≡◌ {A = ℕ} 0 1 = cc in absurd (omega arith)
+index_is (suc k) i e = by (ltb k 8) refl e
+  where
+    by : (b : Bool) → ltb k 8 ≡ b → Some i ≡ cond b (Some k) None → (suc k ≡ suc i) × (i < 8)
+    by true q e = let s : i ≡ k = cc in (ap suc (sym s), omega (arith, ltb-true k 8 q))
+    by false q e = let z : ◌≡◌ {A = ℕ} 0 1 = cc in absurd (omega arith)
+
+-- the table in which row i is another, by what was made of the row that stood there
+pub row_changed : (rs : List Row) (k i : ℕ) (d r : Row) (F : (ℕ → ℕ) → ℕ → ℕ) → (k ≡ suc i) × (i < 8) → length rs ≡ 8 → in_row r ≡ F (in_row (get_or rs i d)) →
+    in_rows (set rs i r) ≡ (λ a w. cond (eqb a k) (F (in_rows rs a) w) (in_rows rs a w))
+row_changed rs k i d r F q long e = λ j a w. at a w j
+  where
+    at : (a w : ℕ) → in_rows (set rs i r) a w ≡ cond (eqb a k) (F (in_rows rs a) w) (in_rows rs a w)
+    at zero w = sym (cond-false (eqb 0 k) _ _ (ne_eqb 0 k (λ z. omega arith)))
+    at (suc a) w =
+        elim (cases_eq a i) [
           | inl p ↦
-              ap (λ i. in_row (get_or (set rs k r) i blank) w) p
-              ∙ ap (λ (z : Row). in_row z w) (get_or-set_same rs k r blank (omega arith))
-              ∙ sym (cond-true (eqb (suc a) (suc k)) _ _ (eq-eqb (suc a) (suc k) (ap suc p)))
-          | inr d ↦
-              ap (λ (z : Row). in_row z w) (get_or-set_other rs k a r blank d)
-              ∙ sym (cond-false (eqb (suc a) (suc k)) _ _ (ne_eqb (suc a) (suc k) (λ x. d (omega arith))))
+              ap (λ n. in_row (get_or (set rs i r) n blank) w) p
+              ∙ ap (λ (z : Row). in_row z w) (get_or-set_same rs i r blank (omega arith))
+              ∙ (λ j. e j w)
+              ∙ ap (λ (z : Row). F (in_row z) w) (get_or_default rs i d blank (omega arith))
+              ∙ ap (λ n. F (in_row (get_or rs n blank)) w) (sym p)
+              ∙ sym (cond-true (eqb (suc a) k) _ _ (eq-eqb (suc a) k (omega arith)))
+          | inr n ↦
+              ap (λ (z : Row). in_row z w) (get_or-set_other rs i a r blank n)
+              ∙ sym (cond-false (eqb (suc a) k) _ _ (ne_eqb (suc a) k (λ x. n (omega arith))))
         ]
-
--- a row that is made from row k and put there
-pub at_row : (T : Table) (F : (ℕ → ℕ) → ℕ → ℕ) (k : ℕ) →
-    ◌≡◌ {A = Table} (λ a w. cond (eqb a k) (F (T k) w) (T a w)) (λ a w. cond (eqb a k) (F (T a) w) (T a w))
-at_row T F k = λ j a w. at a w j
-  where
-    at : (a w : ℕ) → cond (eqb a k) (F (T k) w) (T a w) ≡ cond (eqb a k) (F (T a) w) (T a w)
-    at a w =
-        elim (cases_eq a k) [
-          | inl p ↦ ap (λ i. cond (eqb a k) (F (T i) w) (T a w)) (sym p)
-          | inr d ↦ cond-false (eqb a k) _ _ (ne_eqb a k d) ∙ sym (cond-false (eqb a k) _ _ (ne_eqb a k d))
-        ]
-
--- a row that is raised
-pub row_max : (ns os rs : List ℕ) → length ns ≡ 8 → length os ≡ 8 → length rs ≡ 8 →
-    ((u : ℕ) → u < 8 → get_or rs u 0 ≡ max (get_or ns u 0) (get_or os u 0)) → (w : ℕ) → number_in rs w ≡ max (number_in ns w) (number_in os w)
-row_max ns os rs a b c f zero = refl
-row_max ns os rs a b c f (suc w) =
-    elim (cases_lt w 8) [
-      | inl l ↦ f w l
-      | inr g ↦
-          let p = get_or_past ns w 0 (omega arith) in
-          let q = get_or_past os w 0 (omega arith) in
-          let r = get_or_past rs w 0 (omega arith) in omega arith
-    ]
-
--- a row of a table
-pub row_is : (rs : List Row) (k : ℕ) (d : Row) → 1 ≤ k → k ≤ length rs → in_row (get_or rs (k - 1) d) ≡ in_rows rs k
-row_is rs zero d a b = absurd (omega arith)
-row_is rs (suc k) d a b =
-    let q : suc k - 1 ≡ k = omega arith in
-    ap (λ i. in_row (get_or rs i d)) q ∙ ap in_row (get_or_default rs k d blank (omega arith))
 
 -- one row more
 pub raised_more : (T S : Table) (k : ℕ) → row_raised (rows_raised T k S) k (S k) ≡ rows_raised T (k + 1) S
@@ -130,8 +109,8 @@ raised_more T S k = λ j a u. at a u j
         ]
 
 -- all rows
-pub raised_all : (t o : TimeTable) (k : ℕ) → k ≡ 9 → rows_raised (number t) k (number o) ≡ (λ a u. max (number t a u) (number o a u))
-raised_all t o k e = λ j a u. at a u j
+pub raised_all : (t o : TimeTable) (k : ℕ) → length t.rows ≡ 8 → length o.rows ≡ 8 → k ≡ 9 → rows_raised (number t) k (number o) ≡ (λ a u. max (number t a u) (number o a u))
+raised_all t o k lt lo e = λ j a u. at a u j
   where
     at : (a u : ℕ) → rows_raised (number t) k (number o) a u ≡ max (number t a u) (number o a u)
     at a u =
@@ -139,6 +118,6 @@ raised_all t o k e = λ j a u. at a u j
           | inl l ↦ cond-true (ltb a k) _ _ (lt-ltb a k l)
           | inr g ↦
               cond-false (ltb a k) (max (number t a u) (number o a u)) (number t a u) (le-ltb a k g)
-              ∙ (let p = rows_past t.rows a u (omega (arith, t.long)) in
-              let q = rows_past o.rows a u (omega (arith, o.long)) in omega arith)
+              ∙ (let p = rows_past t.rows a u (omega arith) in
+              let q = rows_past o.rows a u (omega arith) in omega arith)
         ]
