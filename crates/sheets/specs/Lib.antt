@@ -1,3 +1,4 @@
 pub mod Judged
 pub mod Coming
 pub mod Told
+pub mod Few
