@@ -60,9 +60,8 @@ fn say_records<V: InWords, R: Records<V>>(heap: Global, records: R) -> Result<St
     ensures { IfOk result (λ s. string_bytes s ≡ records_text V.InWords.words (R.Records.coming records)) }
 {
     let mut text = String::new(heap);
-    let mut walk = records;
-    while let Some(x) = walk.next() {
-        let line = say_record(heap, &x)?;
+    for record in records {
+        let line = say_record(heap, &record)?;
         text.push_str(&line)?;
     }
     Ok(text)

@@ -1,5 +1,4 @@
 pub mod Sought
-pub mod Few
 pub mod Again
 pub mod Steps
 pub mod Fronts

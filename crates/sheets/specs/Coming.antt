@@ -1,17 +1,21 @@
 -- The records of a sheet that are still to come.
 -- Assumes nothing.
-use Rattle.std.specs.Prelude.{◌≡◌, ℕ, ◌+◌, ◌-◌, cond, List, [], ◌∷◌, ◌++◌, Ok, Err, Option, Result, nat_lt}
+use Rattle.std.specs.Prelude.{◌≡◌, ℕ, ◌+◌, ◌-◌, ◌<◌, ◌≤◌, List, [], ◌∷◌, Some, None, Ok, Err, Option, Result}
+use Rattle.std.specs.Iterator.{YieldsFirstBy}
 use Rattle.rules.specs.Refusals.{Refusal}
-use Rattle.rules.specs.Stamps.{Stamp}
+use Rattle.rules.specs.Stamps.{Stamp, Within}
 use Rattle.rules.specs.Records.{Body, Record}
 use Rattle.rules.specs.Kinds.{Kind}
 use Rattle.rules.specs.Tables.{Table}
-use Rattle.rules.specs.Sheets.{Sheet, run, runs}
+use Rattle.rules.specs.Sheets.{Sheet, runs}
 use Rattle.rules.specs.Reading.{record_at, read}
+use Rattle.events.specs.declared.stamp.Stamp as events
+use Rattle.events.specs.Told.{stamp_of}
 use Rattle.kinds.specs.Formats.{Format, rule_of}
 use Rattle.tables.specs.declared.seat.Seat.{Seat}
 use Rattle.tables.specs.Numbers.{in_row}
 use Rattle.readers.specs.Capped.{capped}
+use Rattle.sheets.specs.declared.records.StampsLeft.{StampsLeft}
 use Rattle.sheets.specs.declared.records.SheetRecords.{SheetRecords}
 
 -- the record with this stamp, and those behind it
@@ -24,21 +28,31 @@ abbrev pub read_all : {E : Type 0} → Kind E → (N : ℕ) (known : ℕ → ℕ
 read_all K N known bs [] at = []
 read_all K N known bs (s ∷ ss) at = more s (read_all K N known bs ss) (record_at K N known bs at)
 
--- the stamps from u.n on, of a writer that knows so many events of each origin for a site that is credited with so many
-abbrev pub left : (N : ℕ) (known credited : ℕ → ℕ) (u n : ℕ) → List Stamp
-left N known credited u n =
-    run u n (known u + 1 - n) ++ runs (λ v. credited v + 1) (λ v. known v - credited v) (u + 1) (N - u)
+-- of the origin u no event is left
+abbrev pub NoneLeft : StampsLeft → ℕ → Type 0
+NoneLeft c u = capped (in_row c.known) u ≤ capped (in_row c.done) u
 
--- those that are left when so many origins are passed, and so many events of the next one
-abbrev pub stamps_left : (N : ℕ) (known credited : ℕ → ℕ) (passed done : ℕ) → List Stamp
-stamps_left N known credited passed done = cond (nat_lt passed N) (left N known credited (passed + 1) (done + 1)) []
+-- the first origin of which an event is left, if there is one
+abbrev pub IsFirstLeft : StampsLeft → Option ℕ → Type 0
+IsFirstLeft c None = (u : ℕ) → Within c.seat.sites u → NoneLeft c u
+IsFirstLeft c (Some u) =
+    Within c.seat.sites u × (capped (in_row c.done) u < capped (in_row c.known) u) × ((v : ℕ) → 1 ≤ v → v < u → NoneLeft c v)
+
+-- the stamps that are left: of each origin those behind the ones that are done, up to what the writer knows
+abbrev pub stamps_left : StampsLeft → List Stamp
+stamps_left c =
+    runs (λ u. capped (in_row c.done) u + 1) (λ u. capped (in_row c.known) u - capped (in_row c.done) u) 1 c.seat.sites
+
+-- the first of them is given, or none where none is left; the group and what the writer knows stay
+abbrev pub GivesStamp : StampsLeft → Option events.Stamp → StampsLeft → Type 0
+GivesStamp c r d = YieldsFirstBy stamp_of stamps_left c r d × (d.seat ≡ c.seat) × (d.known ≡ c.known)
 
 abbrev pub to_come : {E : Type 0} → SheetRecords E → List Stamp
-to_come c = stamps_left c.seat.sites (capped (in_row c.known)) (capped (in_row c.credited)) c.passed c.done
+to_come c = stamps_left c.stamps
 
 abbrev pub records_of : {E : Type 0} → Format E → SheetRecords E → List (Record E)
 records_of f c =
-    read_all (rule_of f) c.seat.sites (capped (in_row c.known)) c.reader.bytes.now (to_come c) c.reader.place
+    read_all (rule_of f) c.stamps.seat.sites (capped (in_row c.stamps.known)) c.reader.bytes.now (to_come c) c.reader.place
 
 -- these are the records of a sheet with this writer and this table: wherever it can be read as such a sheet, with an own row or without, they are read
 abbrev pub ReadAgain : {E : Type 0} → Format E → Seat → (k : ℕ) → Table → List ℕ → List (Record E) → Type 0

@@ -2,3 +2,4 @@ pub mod Judged
 pub mod Coming
 pub mod Told
 pub mod Front
+pub mod Few

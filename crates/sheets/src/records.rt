@@ -2,17 +2,21 @@ use readers::Reader;
 use std::marker::PhantomData;
 use tables::{Row, Seat};
 
+pub mod stamps;
 pub mod walk;
 
-// A walk over the records of a sheet, from its reader's place on. So many origins are passed, and of the next one
-// so many events are done; the writer knows more of them, and the addressee is credited with fewer.
+// The stamps of a sheet's records, origin by origin: of each origin the writer knows so many events, and so many are done.
 #[derive(Clone, Copy)]
-pub struct SheetRecords<'a, V> {
-    reader: Reader<'a>,
+struct StampsLeft {
     seat: Seat,
     known: Row,
-    credited: Row,
-    passed: u8,
-    done: u32,
+    done: Row,
+}
+
+// The records of a sheet: their stamps, and what the sheet has from its reader's place on.
+#[derive(Clone, Copy)]
+pub struct SheetRecords<'a, V> {
+    stamps: StampsLeft,
+    reader: Reader<'a>,
     kind: PhantomData<V>,
 }

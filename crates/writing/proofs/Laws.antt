@@ -1,14 +1,7 @@
 -- Writing over a buffer, part behind part.
-use Rattle.std.proofs.Common.{◌≡◌, ℕ, suc, ◌+◌, ◌-◌, ◌<◌, ◌≤◌, List, [], ◌∷◌, ◌++◌, length, take, drop, set, sym, ap, ◌∙◌, add-zero, arith}
-use Rattle.std.proofs.lemmas.List.{drop-drop, append_assoc, length-append, length-take, length-drop, take_at, drop_at, take-append-drop, set_split}
-use borrow.Rule.Slice.PartMut.{put_mid}
+use Rattle.std.proofs.Common.{◌≡◌, ℕ, ◌+◌, ◌≤◌, List, [], ◌++◌, length, take, drop, sym, ap, ◌∙◌, add-zero, arith}
+use Rattle.std.proofs.lemmas.List.{drop-drop, append_assoc, length-append, length-take, length-drop, take_at, drop_at, take-append-drop}
 use Rattle.writing.specs.Filled.{over}
-
--- what a part that was written over leaves
-pub put_is : (xs ys ws : List ℕ) (i k : ℕ) → ys ≡ ws → k ≡ i + length ws - i → put_mid i k xs ys ≡ over xs i ws
-put_is xs ys ws i k e h =
-    let p : k ≡ length ws = omega arith in
-    rw (e, p, drop-drop)
 
 pub length_over : (xs ws : List ℕ) (i : ℕ) → i + length ws ≤ length xs → length (over xs i ws) ≡ length xs
 length_over xs ws i h = simp (length-append, length-take, length-drop) (omega arith)
@@ -31,18 +24,3 @@ over_more xs ws vs i k h e =
     (λ j. t j ++ (vs ++ d₂ j))
     ∙ append_assoc (take i xs) ws (vs ++ drop (i + length (ws ++ vs)) xs)
     ∙ ap (λ ys. take i xs ++ ys) (sym (append_assoc ws vs (drop (i + length (ws ++ vs)) xs)))
-
--- one byte written
-pub set_over : (xs : List ℕ) (i b : ℕ) → i < length xs → set xs i b ≡ over xs i (b ∷ [])
-set_over xs i b h = set_split xs i b h ∙ ap (λ k. take i xs ++ b ∷ drop k xs) (let e : suc i ≡ i + 1 = omega arith in e)
-
--- one byte written behind others
-pub set_behind : (xs ws : List ℕ) (i k b : ℕ) → i + length ws < length xs → k ≡ i + length ws → set (over xs i ws) k b ≡ over xs i (ws ++ b ∷ [])
-set_behind xs ws i k b h e =
-    let n = length_over xs ws i (omega arith) in
-    set_over (over xs i ws) k b (omega arith) ∙ over_more xs ws (b ∷ []) i k (omega arith) e
-
--- a part written over behind others
-pub put_behind : (xs ws ys vs : List ℕ) (i k m : ℕ) → i + length ws ≤ length xs → k ≡ i + length ws → ys ≡ vs → m ≡ k + length vs - k
-    → put_mid k m (over xs i ws) ys ≡ over xs i (ws ++ vs)
-put_behind xs ws ys vs i k m h e p q = put_is (over xs i ws) ys vs k m p q ∙ over_more xs ws vs i k h e

@@ -1,4 +1,3 @@
 pub mod Laws
 pub mod Strips
-pub mod Bodied
 pub mod Fitted

@@ -1,6 +1,7 @@
 // Writing a sheet into a lent buffer.
 #![tactic(auto)]
 
+mod buffer;
 mod refusal;
 mod sheet;
 

@@ -4,11 +4,15 @@ use Rattle.sheet_commands.specs.Lines.{record_line, records_text}
 use Rattle.sheet_commands.proofs.Said.{piece}
 use Rattle.sheet_commands.proofs.lines.say_records.Goals as goal
 
-pub loop-x-preserved : goal.loop-x-preserved
-loop-x-preserved g c =
+pub loop-record-preserved : goal.loop-record-preserved
+loop-record-preserved g c =
     let words = g.V.InWords.words in
-    let t = string_bytes c.loop-x.text in
-    let rest = g.R.Records.coming c.next.new.self in
-    piece t (record_line words (record_of c.in-Some.x)) (records_text words rest) _ _
-    (c.in_ok-push_str.ensures.bytes ∙ ap (λ b. t ++ b) (c.deref.ensures ∙ c.in_ok-line.ensures))
-    (ap (λ rs. t ++ records_text words rs) (sym c.in-Some.ensures) ∙ c.loop-x.invariant)
+    let law = g.met.R.Records in
+    let t = string_bytes c.loop-record.text in
+    let rest = g.R.Records.coming c.next.new.self in (
+      law.ready _,
+      (law.few _).0,
+      piece t (record_line words (record_of c.in-Some.record)) (records_text words rest) _ _
+          (c.in_ok-push_str.ensures.bytes ∙ ap (λ b. t ++ b) (c.deref.ensures ∙ c.in_ok-line.ensures))
+          (ap (λ rs. t ++ records_text words rs) (sym (law.gives _ _ _ c.in-Some.ensures.steps)) ∙ c.loop-record.invariant.2),
+    )

@@ -14,7 +14,7 @@ returns-in_err-check_table g c =
     let bs = c.args.bytes.now in
     let r = err_from_is_err_and c.from_residual-in_err-check_table.result c.from_residual-in_err-check_table.ensures.1 in
     let p =
-    bad_table f seat (option_map in_row c.args.own) bs c.in_ok-writer.writer (c.in_ok-writer.ensures ∙ ap (λ z. head_judged seat.sites seat.own z bs) c.code.ensures)
+    bad_table f seat (option_map in_row c.args.own) bs c.in_ok-writer.writer (c.in_ok-writer.ensures ∙ ap (λ z. head_judged seat.sites seat.own z bs) (c.CODE.ensures ∙ g.met.V.Kind.code_agrees))
     c.in_ok-front.ensures.value c.in_ok-front.front c.in_ok-front.ensures.fields
     c.in_err-check_table.field-0.0 c.in_err-check_table.ensures in
     rw (r.1, r.2) (record { value = p.0; rules = p.1 })
@@ -26,7 +26,7 @@ returns-in_err-check_own g c =
     let bs = c.args.bytes.now in
     let r = err_from_is_err_and c.from_residual-in_err-check_own.result c.from_residual-in_err-check_own.ensures.1 in
     let p =
-    bad_own f seat (option_map in_row c.args.own) bs c.in_ok-writer.writer (c.in_ok-writer.ensures ∙ ap (λ z. head_judged seat.sites seat.own z bs) c.code.ensures)
+    bad_own f seat (option_map in_row c.args.own) bs c.in_ok-writer.writer (c.in_ok-writer.ensures ∙ ap (λ z. head_judged seat.sites seat.own z bs) (c.CODE.ensures ∙ g.met.V.Kind.code_agrees))
     c.in_ok-front.ensures.value c.in_ok-front.front c.in_ok-front.ensures.fields c.in_ok-check_table.ensures
     c.in_err-check_own.field-0.0 c.in_err-check_own.ensures in
     rw (r.1, r.2) (record { value = p.0; rules = p.1 })
@@ -38,7 +38,7 @@ returns-in_err-check g c =
     let bs = c.args.bytes.now in
     let r = err_from_is_err_and c.from_residual-in_err-check.result c.from_residual-in_err-check.ensures.1 in
     let p =
-    bad_records f seat (option_map in_row c.args.own) bs c.in_ok-writer.writer (c.in_ok-writer.ensures ∙ ap (λ z. head_judged seat.sites seat.own z bs) c.code.ensures)
+    bad_records f seat (option_map in_row c.args.own) bs c.in_ok-writer.writer (c.in_ok-writer.ensures ∙ ap (λ z. head_judged seat.sites seat.own z bs) (c.CODE.ensures ∙ g.met.V.Kind.code_agrees))
     c.in_ok-front.ensures.value c.in_ok-front.front c.in_ok-front.ensures.fields c.in_ok-check_table.ensures c.in_ok-check_own.ensures
     (number c.table-table.result) c.table-table.ensures c.in_err-check.field-0.0
     (c.in_err-check.ensures
@@ -51,7 +51,7 @@ returns g c =
     let seat = c.args.seat in
     let bs = c.args.bytes.now in
     let p =
-    all_good f seat (option_map in_row c.args.own) bs c.in_ok-writer.writer (c.in_ok-writer.ensures ∙ ap (λ z. head_judged seat.sites seat.own z bs) c.code.ensures)
+    all_good f seat (option_map in_row c.args.own) bs c.in_ok-writer.writer (c.in_ok-writer.ensures ∙ ap (λ z. head_judged seat.sites seat.own z bs) (c.CODE.ensures ∙ g.met.V.Kind.code_agrees))
     c.in_ok-front.ensures.value c.in_ok-front.front c.in_ok-front.ensures.fields c.in_ok-check_table.ensures c.in_ok-check_own.ensures
     (number c.table-table.result) c.table-table.ensures
     (c.in_ok-check.ensures
