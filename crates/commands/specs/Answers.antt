@@ -11,13 +11,11 @@ use Rattle.kinds.specs.Bookings.{bookings, booking_text}
 use Rattle.kinds.specs.Notices.{notices, notice_text}
 use Rattle.sheet_commands.specs.Answers as sheets
 use Rattle.sheet_commands.specs.Answers.{sheet_answer}
-use Rattle.commands.specs.declared.answers.Name.{Name}
-use Rattle.commands.specs.declared.answers.Name.TheVariants.{Entry, Booking, Notice, Stamp, Sheet, SheetFile, Help, Nothing, Unknown}
-use Rattle.commands.specs.declared.answers.Usage.TheVariants as usages
+use Rattle.commands.specs.declared.usage.Usage.TheVariants as usages
 use Rattle.commands.specs.Usages.{usage_text}
-use Rattle.commands.specs.Names.{name_of}
-use Rattle.commands.specs.Entries.{booking_read, line_out_read, word_read}
-use Rattle.commands.specs.Texts.{entry_read, bytes_text, said}
+use Rattle.commands.specs.Names.{silent}
+use Rattle.commands.specs.Entries.{booking_read, line_out_read, word_read, entry_read}
+use Rattle.commands.specs.Texts.{bytes_text, said}
 
 -- no word is left
 abbrev pub empty : List ℕ → Bool
@@ -65,17 +63,15 @@ stamp_said (Err x) = stamp_text_refusal_text x
 abbrev pub stamp_answer : List ℕ → List ℕ
 stamp_answer cs = cond (not (no_word (behind cs))) (usage_text usages.Stamp) (stamp_said (stamp_read (word cs)))
 
--- by the first word
-abbrev pub answer_by : Name → List ℕ → List ℕ
-answer_by Entry cs = entry_answer cs
-answer_by Booking cs = booking_answer cs
-answer_by Notice cs = notice_answer cs
-answer_by Stamp cs = stamp_answer cs
-answer_by Sheet cs = sheet_answer cs
-answer_by SheetFile cs = sheets.usage_text
-answer_by Help cs = usage_text usages.All
-answer_by Nothing cs = []
-answer_by Unknown cs = usage_text usages.None
-
+-- by the first word: one with a path is answered by what the file holds
 abbrev pub answer_of : List ℕ → List ℕ
-answer_of line = answer_by (name_of (word line)) (behind line)
+answer_of line =
+    let w = word line in
+    let cs = behind line in
+    cond (bytes_eq w (codes "entry")) (entry_answer cs)
+    (cond (bytes_eq w (codes "booking")) (booking_answer cs)
+    (cond (bytes_eq w (codes "notice")) (notice_answer cs)
+    (cond (bytes_eq w (codes "stamp")) (stamp_answer cs)
+    (cond (bytes_eq w (codes "sheet")) (sheet_answer cs)
+    (cond (bytes_eq w (codes "sheet-file")) sheets.usage_text
+    (cond (bytes_eq w (codes "help")) (usage_text usages.All) (cond (silent w) [] (usage_text usages.Unknown))))))))

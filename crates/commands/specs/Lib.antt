@@ -1,4 +1,3 @@
-pub mod Problems
 pub mod Usages
 pub mod Names
 pub mod Entries

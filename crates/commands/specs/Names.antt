@@ -4,22 +4,11 @@ use Rattle.std.specs.Prelude.{ℕ, Bool, true, cond, List, [], ◌∷◌, Some, 
 use Rattle.std.specs.Str.{bytes_eq}
 use Rattle.kinds.specs.declared.booking.Work.{Work}
 use Rattle.kinds.specs.declared.booking.Work.TheVariants.{Retrofit, Trial, Freeze}
-use Rattle.commands.specs.declared.answers.Name.{Name}
-use Rattle.commands.specs.declared.answers.Name.TheVariants.{Entry, Booking, Notice, Stamp, Sheet, SheetFile, Help, Nothing, Unknown}
 
 -- no word, or one that begins a comment
 abbrev pub silent : List ℕ → Bool
 silent [] = true
 silent (c ∷ cs) = c == 35
-
-abbrev pub name_of : List ℕ → Name
-name_of w =
-    cond (bytes_eq w (codes "entry")) Entry
-    (cond (bytes_eq w (codes "booking")) Booking
-    (cond (bytes_eq w (codes "notice")) Notice
-    (cond (bytes_eq w (codes "stamp")) Stamp
-    (cond (bytes_eq w (codes "sheet")) Sheet
-    (cond (bytes_eq w (codes "sheet-file")) SheetFile (cond (bytes_eq w (codes "help")) Help (cond (silent w) Nothing Unknown)))))))
 
 abbrev pub work_of_name : List ℕ → Option Work
 work_of_name w =

@@ -2,6 +2,7 @@
 #![tactic(auto)]
 
 mod answers;
-mod problem;
+mod entries;
+mod usage;
 
 pub use answers::answer;

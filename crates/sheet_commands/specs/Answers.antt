@@ -3,40 +3,32 @@
 use Rattle.std.specs.Prelude.{ℕ, min, Bool, cond, not, ◌&&◌, List, length, Some, None, Ok, Err, codes, Option, Result, ◌==◌}
 use Rattle.std.specs.Str.{bytes_eq}
 use Rattle.rules.specs.Results.{◌>>=◌, refused_as}
-use Rattle.text.specs.Decimals.{decimal_of, capped}
 use Rattle.text.specs.Hexadecimals.{hex_bytes_of}
 use Rattle.text.specs.Words.{word, behind}
 use Rattle.kinds.specs.Bookings.{bookings, booking_text}
 use Rattle.kinds.specs.Notices.{notices, notice_text}
 use Rattle.tables.specs.declared.seat.Seat.{Seat}
 use Rattle.tables.specs.Seats.{seat_ranged}
-use Rattle.sheet_commands.specs.declared.problem.SeatProblem.{SeatProblem}
-use Rattle.sheet_commands.specs.declared.problem.SeatProblem.TheVariants.{Number, Refused}
-use Rattle.sheet_commands.specs.Problems.{problem_text}
+use Rattle.tables.specs.Refused.{seat_refusal_text}
+use Rattle.tables.specs.declared.refusal.SeatRefusal.{SeatRefusal}
+use Rattle.sheet_commands.specs.declared.problem.BadWord.TheVariants.{Hexadecimal}
+use Rattle.sheet_commands.specs.declared.problem.Problem.{Problem}
+use Rattle.sheet_commands.specs.declared.problem.Problem.TheVariants.{Word, Refused}
+use Rattle.sheet_commands.specs.Problems.{word_text, problem_text}
+use Rattle.sheet_commands.specs.Words.{number_read}
 use Rattle.sheet_commands.specs.Lines.{said_of}
 
-unfoldable pub usage_text : List ℕ
+abbrev pub usage_text : List ℕ
 usage_text = codes "usage: sheet N SITE KIND HEX, or sheet-file N SITE KIND PATH; KIND is booking or notice"
 
-unfoldable pub no_bytes_text : List ℕ
-no_bytes_text = codes "no bytes: write two hexadecimal digits for each"
-
--- a number of sites; one that is too large reads as 255, which no group has
-abbrev pub number_of : Option ℕ → Result ℕ SeatProblem
-number_of (Some n) = Ok (min n 255)
-number_of None = Err Number
-
-abbrev pub number_read : List ℕ → Result ℕ SeatProblem
-number_read w = number_of (capped (decimal_of w))
-
--- the seat that two words name: the group's size and the site
-abbrev pub seat_read : (sites own : List ℕ) → Result (ℕ × ℕ) SeatProblem
+-- the seat that two words name: the group's size and the site; a number that is too large reads as 255, which no group has
+abbrev pub seat_read : (sites own : List ℕ) → Result (ℕ × ℕ) (Problem SeatRefusal)
 seat_read sites own = do
-  n ← number_read sites
-  i ← number_read own
-  refused_as Refused (seat_ranged n i)
+  n ← refused_as Word (number_read sites)
+  i ← refused_as Word (number_read own)
+  refused_as Refused (seat_ranged (min n 255) (min i 255))
 
-abbrev pub seat_shown : Result Seat SeatProblem → Result (ℕ × ℕ) SeatProblem
+abbrev pub seat_shown : Result Seat (Problem SeatRefusal) → Result (ℕ × ℕ) (Problem SeatRefusal)
 seat_shown (Ok s) = Ok (s.sites, s.own)
 seat_shown (Err x) = Err x
 
@@ -46,16 +38,16 @@ kind_said N i kind bs =
     cond (bytes_eq kind (codes "booking")) (said_of bookings booking_text N i bs)
     (cond (bytes_eq kind (codes "notice")) (said_of notices notice_text N i bs) usage_text)
 
-abbrev pub seat_said : Result (ℕ × ℕ) SeatProblem → (kind bytes : List ℕ) → List ℕ
+abbrev pub seat_said : Result (ℕ × ℕ) (Problem SeatRefusal) → (kind bytes : List ℕ) → List ℕ
 seat_said (Ok s) kind bs = kind_said s.0 s.1 kind bs
-seat_said (Err x) kind bs = problem_text x
+seat_said (Err x) kind bs = problem_text seat_refusal_text x
 
 abbrev pub sheet_said : (sites own kind bytes : List ℕ) → List ℕ
 sheet_said sites own kind bs = seat_said (seat_read sites own) kind bs
 
 -- the same for bytes that are written in hexadecimal digits
 abbrev pub digits_said : (sites own kind : List ℕ) → Option (List ℕ) → List ℕ
-digits_said sites own kind None = no_bytes_text
+digits_said sites own kind None = word_text Hexadecimal
 digits_said sites own kind (Some bs) = sheet_said sites own kind bs
 
 abbrev pub empty : List ℕ → Bool

@@ -1,5 +1,5 @@
 // The lines that say what a sheet says.
-ghost use Rattle.std.specs.Prelude.{◌≡◌, ◌≤◌, IfOk, None, Ok, string_bytes};
+ghost use Rattle.std.specs.Prelude.{◌≡◌, IfOk, None, Ok, string_bytes};
 ghost use Rattle.rules.specs.Sheets.{Sheet};
 ghost use Rattle.rules.specs.Reading.{read};
 ghost use Rattle.kinds.specs.Formats.{rule_of};
@@ -7,35 +7,33 @@ ghost use Rattle.events.specs.Told.{record_of};
 ghost use Rattle.tables.specs.Numbers.{number};
 ghost use Rattle.sheet_commands.specs.Lines.{row_line, rows_text, record_line, records_text, sheet_text, said_of};
 
-use crate::words::InWords;
+use crate::in_words::InWords;
 use events::{Body, Record};
 use sheets::{Checked, SheetRecords, check};
 use std::alloc::{AllocError, Global};
+use std::fmt::Write;
 use tables::{Seat, TimeTable};
 use walks::Records;
 
-// The line of row k in a group of n.
-fn say_row(heap: Global, table: &TimeTable, n: u8, k: u8) -> Result<String, AllocError>
-    requires { n ≤ 8 }
-    ensures { IfOk result (λ s. string_bytes s ≡ row_line (number table.now) n k) }
+// The line of row k.
+fn say_row(heap: Global, table: &TimeTable, seat: Seat, k: u8) -> Result<String, AllocError>
+    ensures { IfOk result (λ s. string_bytes s ≡ row_line (number table.now) seat.sites k) }
 {
     let mut text = format!(in heap; "\nrow {k}:")?;
-    for u in 1..n + 1 {
+    for u in 1..=seat.sites {
         let number = table.number(k, u);
-        let word = format!(in heap; " {number}")?;
-        text.push_str(&word)?;
+        write!(text, " {number}")?;
     }
     Ok(text)
 }
 
 // The lines of all rows.
-fn say_rows(heap: Global, table: &TimeTable, n: u8) -> Result<String, AllocError>
-    requires { n ≤ 8 }
-    ensures { IfOk result (λ s. string_bytes s ≡ rows_text (number table.now) n) }
+fn say_rows(heap: Global, table: &TimeTable, seat: Seat) -> Result<String, AllocError>
+    ensures { IfOk result (λ s. string_bytes s ≡ rows_text (number table.now) seat.sites) }
 {
     let mut text = String::new(heap);
-    for k in 1..n + 1 {
-        let line = say_row(heap, table, n, k)?;
+    for k in 1..=seat.sites {
+        let line = say_row(heap, table, seat, k)?;
         text.push_str(&line)?;
     }
     Ok(text)
@@ -47,10 +45,7 @@ fn say_record<V: InWords>(heap: Global, x: &Record<V>) -> Result<String, AllocEr
 {
     let at = x.at;
     match x.body {
-        Body::Booked(value) => {
-            let words = value.in_words(heap)?;
-            format!(in heap; "\n{at} books {words}")
-        }
+        Body::Booked(value) => format!(in heap; "\n{at} books {value}"),
         Body::Struck(stamp) => format!(in heap; "\n{at} strikes {stamp}"),
     }
 }
@@ -78,7 +73,7 @@ fn say_checked<V: InWords>(
 {
     let Checked { writer, table } = checked;
     let own = seat.own;
-    let rows = say_rows(heap, &table, seat.sites)?;
+    let rows = say_rows(heap, &table, seat)?;
     let records = say_records::<V, SheetRecords<V>>(
         heap,
         SheetRecords::new(seat, writer, &table, bytes),

@@ -1,32 +1,27 @@
-ghost use Rattle.std.specs.Prelude.{◌≡◌, ℕ, List, IfOk, string_bytes};
-ghost use Rattle.kinds.specs.Bookings.{booking_text};
-ghost use Rattle.kinds.specs.Notices.{notice_text};
+// The words of a line.
+ghost use Rattle.std.specs.Prelude.{◌≡◌, map};
+ghost use Rattle.sheet_commands.specs.Words.{first_words, number_read};
 
-use kinds::{Booking, Kind, Notice};
-use std::alloc::{AllocError, Global};
+use crate::problem::BadWord;
+use std::array;
+use text::{cut_word, decimal};
 
-// A kind whose entries can be said in words.
-pub trait InWords: Kind + Copy {
-    // the words of an entry
-    ghost words: { Self → List ℕ };
-
-    // The entry in words.
-    fn in_words(&self, heap: Global) -> Result<String, AllocError>
-        ensures { IfOk result (λ s. string_bytes s ≡ words self.now) };
+// The first six words of a line, empty where there are none: no command has more than five, and a sixth shows that a line has.
+// The six is no const parameter: an array of references of such a length gets no proof.
+pub fn first_words(line: &[u8]) -> [&[u8]; 6]
+    ensures { map (λ w. w.now) result ≡ first_words 6 line.now }
+{
+    let mut rest = line;
+    array::from_fn(|_| {
+        let (word, behind) = cut_word(rest);
+        rest = behind;
+        word
+    })
 }
 
-impl InWords for Booking {
-    ghost words = { booking_text };
-
-    fn in_words(&self, heap: Global) -> Result<String, AllocError> {
-        self.to_string(heap)
-    }
-}
-
-impl InWords for Notice {
-    ghost words = { notice_text };
-
-    fn in_words(&self, heap: Global) -> Result<String, AllocError> {
-        self.to_string(heap)
-    }
+// A number; one that is too large reads as the largest.
+pub fn number(word: &[u8]) -> Result<u32, BadWord>
+    ensures { result ≡ number_read word.now }
+{
+    decimal(word).ok_or(BadWord::Number)
 }

@@ -9,4 +9,4 @@ mod words;
 pub use decimals::decimal;
 pub use hexadecimals::{hex_bytes, hex_text};
 pub use splits::split_once;
-pub use words::{cut_word, same_text};
+pub use words::cut_word;

@@ -1,6 +1,5 @@
 // The words of a line.
 ghost use Rattle.std.specs.Prelude.{◌≡◌, length};
-ghost use Rattle.std.specs.Str.{bytes_eq};
 ghost use Rattle.text.specs.Words.{blank, trimmed, front_word, word, behind};
 
 // Whether a byte stands between words.
@@ -36,11 +35,4 @@ pub fn cut_word(line: &[u8]) -> (&[u8], &[u8])
     let text = trim(line);
     let end = word_length(text);
     text.split_at(end)
-}
-
-// Whether two texts are the same.
-pub fn same_text(a: &[u8], b: &[u8]) -> bool
-    ensures { result ≡ bytes_eq a.now b.now }
-{
-    a == b
 }

@@ -1,14 +1,13 @@
-use Rattle.std.proofs.Common.{◌≡◌, ℕ, ◌-◌, List, length, take, replicate, IfOk, string_bytes, ap, ◌∙◌, subst, arith}
+use Rattle.std.proofs.Common.{◌≡◌, ℕ, ◌-◌, List, length, take, replicate, IfOk, string_bytes, ap, ◌∙◌, subst}
 use Rattle.std.proofs.lemmas.List.{take_at}
 use Rattle.text.specs.Hexadecimals.{hex_text_of}
 use Rattle.kinds.specs.Formats.{padded}
 use Rattle.commands.proofs.answers.digits_of.Goals as goal
 
 -- the bytes in front of the zeros
-front : (bs xs : List ℕ) (w n : ℕ) → xs ≡ padded bs → length bs ≡ w → n ≡ w → take (n - 0) xs ≡ bs
+front : (bs xs : List ℕ) (w n : ℕ) → xs ≡ padded bs → length bs ≡ w → n ≡ w → take n xs ≡ bs
 front bs xs w n e l k =
-    let m : n - 0 ≡ w = omega arith in
-    ap (take (n - 0)) e ∙ ap (λ j. take j (padded bs)) m ∙ take_at bs (replicate (16 - length bs) 0) w l
+    ap (take n) e ∙ ap (λ j. take j (padded bs)) k ∙ take_at bs (replicate (16 - length bs) 0) w l
 
 pub returns : goal.returns
 returns g c =

@@ -8,5 +8,5 @@ use Rattle.sheet_commands.proofs.lines.say_row.Given as goal
 -- what is said, and what is left, give the whole
 abbrev pub invariant-loop-u : goal.invariant-loop-u
 invariant-loop-u l =
-    string_bytes l.text ++ flat_map (cell_text (number l.table)) (run l.k l.u (l.n + 1 - l.u))
-    ≡ row_line (number l.table) l.n l.k
+    string_bytes l.text ++ flat_map (cell_text (number l.table)) (run l.k l.u (l.fn.seat.sites + 1 - l.u))
+    ≡ row_line (number l.table) l.fn.seat.sites l.k

@@ -7,7 +7,7 @@ use Rattle.sheet_commands.proofs.lines.say_rows.Goals as goal
 pub loop-k-preserved : goal.loop-k-preserved
 loop-k-preserved c =
     let T = number c.args.table.now in
-    let n = c.args.n in
+    let n = c.args.seat.sites in
     let k = c.loop-k.k in
     piece (string_bytes c.loop-k.text) (row_line T n k) (rows_from T n (k + 1) (n + 1 - (k + 1))) (rows_text T n) _
     (c.in_ok-push_str.ensures.bytes
