@@ -1,8 +1,7 @@
 -- Edits of entries in stamp order, at the places that the search finds.
 -- Assumes nothing.
-use Rattle.std.proofs.Common.{◌≡◌, ℕ, Bool, true, false, not, List, [], ◌∷◌, drop, set, sym, refl, ap, ◌∙◌, true≢false, arith}
+use Rattle.std.proofs.Common.{◌≡◌, ℕ, Bool, true, false, not, List, [], ◌∷◌, drop, set, sym, refl, ap, ◌∙◌, true≢false}
 use Rattle.std.specs.List.{list_all, insert as inserted, remove}
-use Rattle.std.proofs.lemmas.Bool.Decides.{nat_tests}
 use Rattle.rules.specs.Stamps.{Stamped, below, same, insert}
 use Rattle.rules.specs.Entries.{join, leave, holds}
 use Rattle.places.specs.Ranks.{ascends, rank}

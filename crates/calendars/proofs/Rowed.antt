@@ -1,13 +1,12 @@
 -- What rows in stamp order mean, and what they mean after an edit.
 -- Assumes nothing.
-use Rattle.std.proofs.Common.{◌≡◌, ℕ, suc, ◌+◌, ◌<◌, ◌≤◌, Bool, true, false, cond, ltb, ◌||◌, List, [], ◌∷◌, ◌++◌, length, take, drop, set, sym, refl, ap, ◌∙◌, length-set, arith}
+use Rattle.std.proofs.Common.{◌≡◌, ℕ, suc, ◌+◌, ◌<◌, ◌≤◌, Bool, true, false, cond, ltb, ◌||◌, List, ◌++◌, length, take, drop, set, sym, ap, ◌∙◌, length-set, arith}
 use mathlib.Core.HLevel.{is_prop→PathP}
 use Rattle.std.specs.Coded.{Coded-set, coded_bool}
 use Rattle.std.specs.List.{list_all, insert, remove}
 use Rattle.std.proofs.lemmas.Bool.Decides.{nat_tests}
 use Rattle.std.proofs.lemmas.List.{take-map, drop-map, map-append, map-set, length-map}
 use Rattle.std.proofs.lemmas.List.Edits.{length-insert}
-use Rattle.rules.specs.Stamps.{least, after}
 use Rattle.rules.specs.Records.{Entry}
 use Rattle.rules.specs.Entries.{join, leave, holds}
 use Rattle.kinds.specs.Formats.{Format}
@@ -15,29 +14,14 @@ use Rattle.places.specs.Ranks.{ascends, rank}
 use Rattle.places.specs.declared.rows.Rows.{Rows}
 use Rattle.places.specs.Used.{in_use}
 use Rattle.places.specs.Edits.{has, with_put, without}
-use Rattle.places.proofs.Tests.{by_test, all_append, all_take, all_drop, all_inserted, all_set}
+use Rattle.places.proofs.Tests.{by_test}
 use Rattle.places.proofs.Order.{rank_le}
-use Rattle.places.proofs.Looked.{after_is}
 use Rattle.places.proofs.Mapped.{rank-map, has-map, ascends-map, inserted_map}
 use Rattle.calendars.specs.declared.row.Row.{Row}
 use Rattle.calendars.specs.declared.calendar.Calendar.{Calendar}
 use Rattle.calendars.specs.contracts.row.RowStamped.TheImpl as stamped
 use Rattle.calendars.specs.Rows.{site_of, number_of, sound, entry_in, entries_in}
 use Rattle.calendars.proofs.Edits.{join_over, join_new, leave_at, leave_none, holds_is}
-
--- every stamp can still exist
-module _ (rs : List Row) (fine : list_all sound rs ≡ true) where
-  pub put_sound : (row : Row) → sound row ≡ true → list_all sound (with_put site_of number_of row rs) ≡ true
-  put_sound row h = by_test (has site_of number_of row.site row.number rs)
-      (λ t. rw t (all_set sound rs (rank site_of number_of row.site row.number rs) row h fine))
-      (λ f. rw f (all_inserted sound rs (rank site_of number_of row.site row.number rs) row h fine))
-
-  pub left_sound : (u m : ℕ) → list_all sound (without site_of number_of u m rs) ≡ true
-  left_sound u m =
-      let r = rank site_of number_of u m rs in
-      by_test (has site_of number_of u m rs)
-      (λ t. rw t (all_append sound (take r rs) (drop (suc r) rs) (all_take sound r rs fine) (all_drop sound (suc r) rs fine)))
-      (λ f. rw f fine)
 
 module _ {V : Type 0} (f : Format V) (rs : List Row) where
   abbrev zs : List (Entry V)
@@ -51,9 +35,6 @@ module _ {V : Type 0} (f : Format V) (rs : List Row) where
 
   there : (u m : ℕ) → place u m ≡ spot u m
   there u m = rank-map (entry_in f) (λ x. x.0) (λ x. x.1) u m rs
-
-  pub after_rows : (u m : ℕ) → least (entries_in f (drop (place u (m + 1)) rs)) ≡ after u m zs
-  after_rows u m = ap least (sym (drop-map (entry_in f) (place u (m + 1)) rs)) ∙ ap (λ k. least (drop k zs)) (there u (m + 1)) ∙ sym (after_is u m zs)
 
   has_there : (u m : ℕ) → has (λ x. x.0) (λ x. x.1) u m zs ≡ has site_of number_of u m rs
   has_there u m = sym (has-map (entry_in f) (λ x. x.0) (λ x. x.1) u m rs)

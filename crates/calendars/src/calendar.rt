@@ -25,7 +25,7 @@ pub struct Calendar<'a, V> {
     ghost stamped: { list_all sound (in_use rows) ≡ true },
 }
 
-// The entry of the first row, if there is one.
+// The entry of the first row, if there is one. Rings do the same with places: a trait for both would be longer than these lines.
 fn first_of<V: Kind>(rows: &[Row]) -> Option<Entry<V>>
     requires { list_all sound rows.now ≡ true }
     ensures { shown result ≡ least (entries_in V.Kind.format rows.now) }

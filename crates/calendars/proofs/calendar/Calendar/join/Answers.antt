@@ -8,7 +8,8 @@ use Rattle.places.specs.Edits.{has, with_put}
 use Rattle.places.specs.Used.{in_use}
 use Rattle.calendars.specs.Rows.{site_of, number_of, sound, entries_in}
 use Rattle.calendars.specs.Meanings.{left}
-use Rattle.calendars.proofs.Rowed.{put_sound, joined, joined_count, has_room, has_none, unchanged}
+use Rattle.places.proofs.Edited.{all_put}
+use Rattle.calendars.proofs.Rowed.{joined, joined_count, has_room, has_none, unchanged}
 use Rattle.calendars.proofs.calendar.Calendar.join.Goals as goal
 
 pub invariant_of-self : goal.invariant_of-self
@@ -19,7 +20,7 @@ invariant_of-self g c =
     record {
       stamped = subst (λ zs. list_all sound zs ≡ true) (sym c.put.ensures.used)
           (elim (is_ok c.put.result) as (λ b. list_all sound (cond b (with_put site_of number_of row rs) rs) ≡ true)
-          [ true ↦ put_sound rs s.stamped row c.of.ensures.sound | false ↦ s.stamped ]);
+          [ true ↦ all_put site_of number_of sound rs s.stamped row c.of.ensures.sound | false ↦ s.stamped ]);
     }
 
 pub returns-in-Ok-clause-answer : goal.returns-in-Ok-clause-answer

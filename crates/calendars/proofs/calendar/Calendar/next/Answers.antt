@@ -4,8 +4,8 @@ use Rattle.rules.specs.Stamps.{least}
 use Rattle.places.specs.Ranks.{rank}
 use Rattle.places.specs.Used.{in_use}
 use Rattle.places.proofs.Tests.{all_drop}
-use Rattle.calendars.specs.Rows.{site_of, number_of, sound, entries_in}
-use Rattle.calendars.proofs.Rowed.{after_rows}
+use Rattle.places.proofs.Looked.{after_map}
+use Rattle.calendars.specs.Rows.{site_of, number_of, sound, entry_in, entries_in}
 use Rattle.calendars.proofs.calendar.Calendar.next.Goals as goal
 
 pub first_of-requires : goal.first_of-requires
@@ -22,4 +22,4 @@ returns g c =
     c.first_of.ensures
     ∙ ap (λ zs. least (entries_in f zs)) c.rows_from.ensures
     ∙ (λ t. least (entries_in f (drop (rank site_of number_of (c.site.ensures.value t) (c.number.ensures.value t + 1) rs) rs)))
-    ∙ after_rows f rs c.args.at.site c.args.at.number
+    ∙ after_map (entry_in f) c.args.at.site c.args.at.number rs
