@@ -1,5 +1,5 @@
 -- The numbers and the rows that are left to say, and the sheet behind a check that passed.
-use Rattle.std.proofs.Common.{◌≡◌, ℕ, suc, ◌+◌, ◌-◌, ◌≤◌, List, ◌++◌, Ok, Err, Result, sym, refl, ap, arith}
+use Rattle.std.proofs.Common.{◌≡◌, ℕ, suc, ◌+◌, ◌-◌, ◌≤◌, ◌++◌, Ok, Err, Result, sym, refl, ap, arith}
 use Rattle.std.specs.List.{flat_map}
 use Rattle.rules.specs.Refusals.{Refusal}
 use Rattle.rules.specs.Tables.{Table}
