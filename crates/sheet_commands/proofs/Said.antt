@@ -1,5 +1,5 @@
--- Text that is said line by line, and the sheet behind a check that passed.
-use Rattle.std.proofs.Common.{◌≡◌, ℕ, suc, ◌+◌, ◌-◌, ◌≤◌, List, [], ◌∷◌, ◌++◌, Ok, Err, Result, sym, refl, ap, ◌∙◌, append_assoc, arith}
+-- The numbers and the rows that are left to say, and the sheet behind a check that passed.
+use Rattle.std.proofs.Common.{◌≡◌, ℕ, suc, ◌+◌, ◌-◌, ◌≤◌, ◌++◌, Ok, Err, Result, sym, refl, ap, arith}
 use Rattle.std.specs.List.{flat_map}
 use Rattle.rules.specs.Refusals.{Refusal}
 use Rattle.rules.specs.Tables.{Table}
@@ -7,23 +7,11 @@ use Rattle.rules.specs.Sheets.{Sheet, run}
 use Rattle.sheets.specs.Told.{without_records}
 use Rattle.sheet_commands.specs.Lines.{cell_text, row_line, rows_from}
 
--- a piece more is said
-pub piece : (t b rest whole t' : List ℕ) → t' ≡ t ++ b → t ++ (b ++ rest) ≡ whole → t' ++ rest ≡ whole
-piece t b rest whole t' e h = ap (λ x. x ++ rest) e ∙ append_assoc t b rest ∙ h
-
 -- the next number of a row
 pub cell_next : (T : Table) (k n u : ℕ) → u ≤ n →
     flat_map (cell_text T) (run k u (n + 1 - u)) ≡ cell_text T (k, u) ++ flat_map (cell_text T) (run k (u + 1) (n + 1 - (u + 1)))
 cell_next T k n u h =
     let e : n + 1 - u ≡ suc (n + 1 - (u + 1)) = omega arith in ap (λ m. flat_map (cell_text T) (run k u m)) e
-
--- the front of a row's line, and the numbers behind it
-pub row_front : (T : Table) (n k : ℕ) (front : List ℕ) →
-    (front ++ (58 ∷ [])) ++ flat_map (cell_text T) (run k 1 (n + 1 - 1)) ≡ front ++ (58 ∷ flat_map (cell_text T) (run k 1 n))
-row_front T n k front =
-    let e : n + 1 - 1 ≡ n = omega arith in
-    append_assoc front (58 ∷ []) (flat_map (cell_text T) (run k 1 (n + 1 - 1)))
-    ∙ ap (λ m. front ++ (58 ∷ flat_map (cell_text T) (run k 1 m))) e
 
 -- the next row
 pub row_next : (T : Table) (n k : ℕ) → k ≤ n → rows_from T n k (n + 1 - k) ≡ row_line T n k ++ rows_from T n (k + 1) (n + 1 - (k + 1))

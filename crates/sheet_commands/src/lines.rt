@@ -16,6 +16,7 @@ use tables::{Seat, TimeTable};
 use walks::Records;
 
 // The line of row k.
+#[tactic(auto, using(crate::proofs::Said::cell_next, std::proofs::lemmas::Grind::common_steps))]
 fn say_row(heap: Global, table: &TimeTable, seat: Seat, k: u8) -> Result<String, AllocError>
     ensures { IfOk result (λ s. string_bytes s ≡ row_line (number table.now) seat.sites k) }
 {
@@ -28,6 +29,7 @@ fn say_row(heap: Global, table: &TimeTable, seat: Seat, k: u8) -> Result<String,
 }
 
 // The lines of all rows.
+#[tactic(auto, using(crate::proofs::Said::row_next, std::proofs::lemmas::Grind::common_steps))]
 fn say_rows(heap: Global, table: &TimeTable, seat: Seat) -> Result<String, AllocError>
     ensures { IfOk result (λ s. string_bytes s ≡ rows_text (number table.now) seat.sites) }
 {
