@@ -5,4 +5,3 @@ pub mod Edited
 pub mod Looked
 pub mod Mapped
 pub mod Shifted
-pub mod Valued
