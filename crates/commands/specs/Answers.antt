@@ -1,6 +1,6 @@
 -- What is printed for a line of input.
 -- Assumes nothing.
-use Rattle.std.specs.Prelude.{ℕ, Bool, cond, not, ◌&&◌, ◌||◌, List, [], ◌++◌, length, Ok, Err, codes, decimal, Result, ◌==◌}
+use Rattle.std.specs.Prelude.{ℕ, Bool, cond, not, ◌&&◌, ◌||◌, List, [], ◌++◌, Ok, Err, codes, decimal, Result}
 use Rattle.std.specs.Str.{bytes_eq}
 use Rattle.rules.specs.Stamps as rules
 use Rattle.text.specs.Words.{word, behind}
@@ -10,7 +10,7 @@ use Rattle.events.specs.Text.{stamp_read}
 use Rattle.kinds.specs.Bookings.{bookings, booking_text}
 use Rattle.kinds.specs.Notices.{notices, notice_text}
 use Rattle.sheet_commands.specs.Answers as sheets
-use Rattle.sheet_commands.specs.Answers.{sheet_answer}
+use Rattle.sheet_commands.specs.Answers.{empty, sheet_answer}
 use Rattle.commands.specs.declared.usage.Usage.TheVariants as usages
 use Rattle.commands.specs.Usages.{usage_text}
 use Rattle.commands.specs.Names.{silent}
@@ -18,9 +18,6 @@ use Rattle.commands.specs.Entries.{booking_read, line_out_read, word_read, entry
 use Rattle.commands.specs.Texts.{bytes_text, said}
 
 -- no word is left
-abbrev pub empty : List ℕ → Bool
-empty bs = length bs == 0
-
 abbrev pub no_word : List ℕ → Bool
 no_word cs = empty (word cs)
 

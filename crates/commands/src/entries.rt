@@ -13,11 +13,15 @@ use text::decimal;
 fn work_named(word: &[u8]) -> Option<Work>
     ensures { result ≡ work_of_name word.now }
 {
-    match word {
-        b"retrofit" => Some(Work::Retrofit),
-        b"trial" => Some(Work::Trial),
-        b"freeze" => Some(Work::Freeze),
-        _ => None,
+    // by `==`: at half of its limits the search does not prove a `match` on these words
+    if word == b"retrofit".as_slice() {
+        Some(Work::Retrofit)
+    } else if word == b"trial".as_slice() {
+        Some(Work::Trial)
+    } else if word == b"freeze".as_slice() {
+        Some(Work::Freeze)
+    } else {
+        None
     }
 }
 
