@@ -32,9 +32,6 @@ module _ (p : ℕ × ℕ → Bool) (N k : ℕ) where
   pub row_end : (u : ℕ) → N < u → in_row_from u ≡ None
   row_end u h = let e : N + 1 - u ≡ 0 = omega arith in ap (λ m. first p (run k u m)) e
 
-  pub row_start : in_row_from 1 ≡ first p (run k 1 N)
-  row_start = let e : N + 1 - 1 ≡ N = omega arith in ap (λ m. first p (run k 1 m)) e
-
 -- what is found in the first places, else in the others
 module _ {A X : Type 0} (p : A → Bool) (g : A → X) where
   found_then : (xs ys : List A) → none_of (first p (xs ++ ys)) g ≡ (none_of (first p xs) g >>= λ _. none_of (first p ys) g)

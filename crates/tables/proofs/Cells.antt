@@ -23,10 +23,7 @@ blank_past (suc (suc (suc (suc (suc (suc (suc zero))))))) = refl
 blank_past (suc (suc (suc (suc (suc (suc (suc (suc zero)))))))) = refl
 blank_past (suc (suc (suc (suc (suc (suc (suc (suc (suc u))))))))) = row_past blank.numbers (suc (suc (suc (suc (suc (suc (suc (suc (suc u))))))))) (omega arith)
 
--- the empty row and the empty table
-pub row_blank : in_row blank ≡ (λ _. 0)
-row_blank = λ j u. blank_past u j
-
+-- a row of no site
 pub rows_past : (rs : List Row) (k u : ℕ) → length rs < k → in_rows rs k u ≡ 0
 rows_past rs zero u h = refl
 rows_past rs (suc k) u h = ap (λ (r : Row). number_in r.numbers u) (get_or_past rs k blank (omega arith)) ∙ blank_past u
