@@ -9,6 +9,8 @@ use kinds::{Booking, EntryRefusal, Kind, Notice, Work};
 use sheet_commands::{BadWord, Problem, number};
 use text::decimal;
 
+pub mod answers;
+
 // The work of this name.
 fn work_named(word: &[u8]) -> Option<Work>
     ensures { result ≡ work_of_name word.now }
@@ -38,7 +40,7 @@ fn day(word: &[u8]) -> Result<u16, BadWord>
 }
 
 // A booking by its five words.
-pub(crate) fn booking(
+fn booking(
     line: &[u8],
     first: &[u8],
     last: &[u8],
@@ -56,7 +58,7 @@ pub(crate) fn booking(
 }
 
 // A notice that a line is out on a day, by its two words.
-pub(crate) fn line_out(line: &[u8], on: &[u8]) -> Result<Notice, Problem<EntryRefusal>>
+fn line_out(line: &[u8], on: &[u8]) -> Result<Notice, Problem<EntryRefusal>>
     ensures { result ≡ line_out_read line.now on.now }
 {
     let line = u16::try_from(number(line)?).unwrap_or(u16::MAX);
@@ -65,7 +67,7 @@ pub(crate) fn line_out(line: &[u8], on: &[u8]) -> Result<Notice, Problem<EntryRe
 }
 
 // A notice of four letters.
-pub(crate) fn word(letters: &[u8]) -> Result<Notice, Problem<EntryRefusal>>
+fn word(letters: &[u8]) -> Result<Notice, Problem<EntryRefusal>>
     ensures { result ≡ word_read letters.now }
 {
     let [a, b, c, d] = letters else {
@@ -75,7 +77,7 @@ pub(crate) fn word(letters: &[u8]) -> Result<Notice, Problem<EntryRefusal>>
 }
 
 // The entry of a kind that bytes stand for, if digits wrote them.
-pub(crate) fn entry<K: Kind>(bytes: Option<&[u8]>) -> Result<K, Problem<EntryRefusal>>
+fn entry<K: Kind>(bytes: Option<&[u8]>) -> Result<K, Problem<EntryRefusal>>
     ensures { result ≡ entry_of K.Kind.format (option_map (λ bs. bs.now) bytes.entry) }
 {
     let bytes = bytes.ok_or(BadWord::Hexadecimal)?;

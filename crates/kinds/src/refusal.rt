@@ -1,6 +1,6 @@
 // Why bytes are no entry.
-ghost use Rattle.std.specs.Prelude.{Some};
-ghost use Rattle.kinds.specs.Refused.{refusal_of, field_text, words_of, entry_refusal_text};
+ghost use Rattle.std.specs.Prelude.{◌≡◌, Some};
+ghost use Rattle.kinds.specs.Refused.{unlawful_of, refusal_of, field_text, words_of, entry_refusal_text};
 
 use refusals::{Ground, Layer, Refusal};
 use std::fmt;
@@ -42,19 +42,27 @@ impl fmt::Display for Field {
     }
 }
 
+impl EntryRefusal {
+    // The place in the entry that it carries.
+    pub fn place(self) -> usize
+        ensures { result ≡ (unlawful_of self).place }
+    {
+        match self {
+            EntryRefusal::Length { length, width } => length.min(width),
+            EntryRefusal::Field { place, .. } => place,
+        }
+    }
+}
+
 impl Ground for EntryRefusal {
     ghost by_rules = { refusal_of };
 
     ghost in_words = { words_of };
 
     fn refusal(self) -> Refusal {
-        let carried = match self {
-            EntryRefusal::Length { length, width } => length.min(width),
-            EntryRefusal::Field { place, .. } => place,
-        };
         Refusal {
             number: 2,
-            carried: carried as u64,
+            carried: self.place() as u64,
             layer: Layer::Kind,
         }
     }

@@ -4,7 +4,6 @@
 mod key;
 mod rows;
 mod search;
-mod shift;
 mod stamped;
 mod value;
 

@@ -5,9 +5,11 @@ ghost use Rattle.rules.specs.Sheets.{front_length};
 use readers::{NumberGround, SheetRefusal};
 use tables::{Row, Seat, TimeTable};
 
+pub mod checking;
+
 // The bytes of a sheet from this writer for this seat, whose head and table are all there.
 #[derive(Clone, Copy)]
-pub struct Front<'a> {
+struct Front<'a> {
     seat: Seat,
     writer: u8,
     bytes: &'a [u8],
@@ -27,12 +29,11 @@ impl<'a> Front<'a> {
     ghost use Rattle.sheets.specs.Told.{ground_found};
 
     // The front of a sheet, if it is all there.
-    pub fn new(seat: Seat, writer: u8, bytes: &'a [u8]) -> Result<Front<'a>, SheetRefusal>
+    fn new(seat: Seat, writer: u8, bytes: &'a [u8]) -> Result<Front<'a>, SheetRefusal>
         ensures value { forgotten result ≡ require (nat_le (front_length seat.sites) (length bytes.now)) (EndsEarly (length bytes.now)) }
         ensures fields { IfOk result (λ f. (f.seat ≡ seat) × (f.writer ≡ writer) × (f.bytes.now ≡ bytes.now)) }
     {
-        let sites = usize::from(seat.sites);
-        if bytes.len() < 5 + 4 * (sites * sites) {
+        if bytes.len() < seat.front_length() {
             return Err(SheetRefusal::EndsEarly {
                 length: bytes.len(),
             });
@@ -78,7 +79,7 @@ impl<'a> Front<'a> {
     }
 
     // The table.
-    pub fn table(&self) -> TimeTable
+    fn table(&self) -> TimeTable
         ensures { number result ≡ front_table self.now }
     {
         let mut table = TimeTable::empty();
@@ -120,7 +121,7 @@ impl<'a> Front<'a> {
     }
 
     // The table has no bad number.
-    pub fn check_table(&self) -> Result<(), SheetRefusal>
+    fn check_table(&self) -> Result<(), SheetRefusal>
         ensures { result ≡ table_judged self.now.seat.sites self.now.writer (front_table self.now) }
     {
         for k in 1..=self.seat.sites {
@@ -130,7 +131,7 @@ impl<'a> Front<'a> {
     }
 
     // The table credits the addressee with no more than its own row, where one is given.
-    pub fn check_own(&self, own: Option<Row>) -> Result<(), SheetRefusal>
+    fn check_own(&self, own: Option<Row>) -> Result<(), SheetRefusal>
         ensures { result ≡ own_judged self.now.seat.sites self.now.seat.own (front_table self.now) (option_map in_row own) }
     {
         let Some(own) = own else {

@@ -2,10 +2,9 @@
 #![tactic(auto)]
 
 mod checked;
-mod checking;
 mod front;
 mod records;
 
 pub use checked::Checked;
-pub use checking::check;
+pub use front::checking::check;
 pub use records::SheetRecords;

@@ -16,6 +16,7 @@ impl Seat {
     ghost use Rattle.std.specs.Prelude.{◌≡◌};
     ghost use Rattle.rules.specs.Sites.{site_checked};
     ghost use Rattle.rules.specs.Stamps.{within};
+    ghost use Rattle.rules.specs.Sheets.{front_length};
     ghost use Rattle.tables.specs.Seats.{seat_ranged, seat_shown, seat_told};
 
     // The place of a site in a group of so many.
@@ -37,5 +38,13 @@ impl Seat {
         ensures { result ≡ within self.sites site }
     {
         (1..=self.sites).contains(&site)
+    }
+
+    // How many bytes of a sheet stand in front of its records: the head and the table.
+    pub fn front_length(self) -> usize
+        ensures { result ≡ front_length self.sites }
+    {
+        let sites = usize::from(self.sites);
+        5 + 4 * (sites * sites)
     }
 }

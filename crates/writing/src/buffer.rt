@@ -2,16 +2,18 @@
 ghost use Rattle.rules.specs.Numbers.{be32};
 ghost use Rattle.writing.specs.Writes.{HasRoom, Writes};
 
+pub mod sheet;
+
 // The buffer, and the place that is written next.
 #[derive(Drop)]
-pub(crate) struct Buffer<'a> {
-    pub(crate) bytes: &'a mut [u8],
-    pub(crate) place: usize,
+struct Buffer<'a> {
+    bytes: &'a mut [u8],
+    place: usize,
 }
 
 impl<'a> Buffer<'a> {
     // Writes these bytes.
-    pub(crate) fn put(&mut self, bytes: &[u8])
+    fn put(&mut self, bytes: &[u8])
         requires { HasRoom self.old bytes.now }
         ensures { Writes self.old bytes.now self.new }
     {
@@ -21,7 +23,7 @@ impl<'a> Buffer<'a> {
     }
 
     // Writes a number in four bytes.
-    pub(crate) fn put_number(&mut self, n: u32)
+    fn put_number(&mut self, n: u32)
         requires { HasRoom self.old (be32 n) }
         ensures { Writes self.old (be32 n) self.new }
     {

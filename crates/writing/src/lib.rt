@@ -3,7 +3,6 @@
 
 mod buffer;
 mod refusal;
-mod sheet;
 
+pub use buffer::sheet::write;
 pub use refusal::ShortBuffer;
-pub use sheet::write;

@@ -5,7 +5,7 @@ use Rattle.tables.specs.Numbers.{in_row, number}
 use Rattle.readers.specs.Capped.{capped}
 use Rattle.sheets.specs.Judged.{head_judged, records_judged}
 use Rattle.sheets.proofs.Judging.{bad_table, bad_own, bad_records, all_good}
-use Rattle.sheets.proofs.checking.check.Goals as goal
+use Rattle.sheets.proofs.front.checking.check.Goals as goal
 
 pub returns-in_err-check_table : goal.returns-in_err-check_table
 returns-in_err-check_table g c =

@@ -2,7 +2,7 @@ use Rattle.std.proofs.Common.{◌≡◌, ℕ, ◌-◌, List, length, take, repli
 use Rattle.std.proofs.lemmas.List.{take_at}
 use Rattle.text.specs.Hexadecimals.{hex_text_of}
 use Rattle.kinds.specs.Formats.{padded}
-use Rattle.commands.proofs.answers.digits_of.Goals as goal
+use Rattle.commands.proofs.entries.answers.digits_of.Goals as goal
 
 -- the bytes in front of the zeros
 front : (bs xs : List ℕ) (w n : ℕ) → xs ≡ padded bs → length bs ≡ w → n ≡ w → take n xs ≡ bs
