@@ -3,16 +3,13 @@
 
 #[cfg(test)]
 mod entries {
-    use dates::{date_of, day_of};
+    use dates::{Date, date_of, day_of};
     use kinds::{Booking, Kind, Notice};
     use refusals::{Ground, Layer, Refusal};
 
     // What is told of bytes that are no entry of a kind.
     fn told<K: Kind + Drop>(bytes: &[u8]) -> Option<Refusal> {
-        match K::decode(bytes) {
-            Ok(_) => None,
-            Err(x) => Some(x.refusal()),
-        }
+        K::decode(bytes).err().map(|x| x.refusal())
     }
 
     // Refusal 2 with a place.
@@ -66,10 +63,23 @@ mod entries {
 
     #[test]
     fn days(rt: HostRuntime) {
-        let leap = date_of(59);
-        assert!(rt; leap.year == 2000 && leap.month == 2 && leap.day == 29);
+        assert_eq!(rt;
+            date_of(59),
+            Date {
+                year: 2000,
+                month: 2,
+                day: 29
+            }
+        );
         let last = date_of(36_524);
-        assert!(rt; last.year == 2099 && last.month == 12 && last.day == 31);
+        assert_eq!(rt;
+            last,
+            Date {
+                year: 2099,
+                month: 12,
+                day: 31
+            }
+        );
         assert_eq!(rt; day_of(last), Some(36_524));
         assert_eq!(rt; day_of(date_of(36_525)), None);
         assert_eq!(rt; day_of(date_of(9000)), Some(9000));
@@ -84,10 +94,7 @@ mod stamps {
 
     // What is told of a stamp that is refused.
     fn told(site: u8, number: u32) -> Option<Refusal> {
-        match Stamp::new(site, number) {
-            Ok(_) => None,
-            Err(x) => Some(x.refusal()),
-        }
+        Stamp::new(site, number).err().map(|x| x.refusal())
     }
 
     #[test]

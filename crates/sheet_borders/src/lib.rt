@@ -42,13 +42,8 @@ mod sheet_tests {
 
     // What is told of a sheet at a site of a group that has this row of its own, or none at hand.
     fn told<K: Kind + Copy>(sites: u8, own: u8, row: Option<Row>, sheet: &[u8]) -> Option<Refusal> {
-        let Ok(seat) = Seat::new(sites, own) else {
-            return None;
-        };
-        match check::<K>(seat, row, sheet) {
-            Ok(_) => None,
-            Err(x) => Some(x.refusal()),
-        }
+        let seat = Seat::new(sites, own).ok()?;
+        check::<K>(seat, row, sheet).err().map(|x| x.refusal())
     }
 
     // A refusal by the sheet.
@@ -246,25 +241,14 @@ mod sheet_tests {
         sheet: &[u8],
         out: &mut [u8],
     ) -> Option<Refusal> {
-        let Ok(seat) = Seat::new(sites, i) else {
-            return None;
-        };
-        let Ok(checked) = check::<K>(seat, None, sheet) else {
-            return None;
-        };
+        let seat = Seat::new(sites, i).ok()?;
+        let checked = check::<K>(seat, None, sheet).ok()?;
         let records = SheetRecords::<K>::new(seat, checked.writer, &checked.table, sheet);
-        let Ok(writer) = Seat::new(sites, checked.writer) else {
-            return None;
-        };
+        let writer = Seat::new(sites, checked.writer).ok()?;
         match write::<K, SheetRecords<K>>(writer, i, &checked.table, records, out) {
             Ok(n) => with(0, n as u64),
             Err(x) => Some(x.refusal()),
         }
-    }
-
-    // Whether the bytes are the same.
-    fn same(a: &[u8], b: &[u8]) -> bool {
-        a == b
     }
 
     // The first sheet in a buffer that is two bytes longer.
@@ -281,7 +265,7 @@ mod sheet_tests {
             rewritten::<Booking>(3, 2, &first_sheet(), &mut out),
             by_site(9, 50)
         );
-        assert_eq!(rt; same(&out, &[7; 49]), true);
+        assert_eq!(rt; out, [7; 49]);
     }
 
     #[test]
@@ -291,7 +275,7 @@ mod sheet_tests {
             rewritten::<Booking>(3, 2, &first_sheet(), &mut out),
             with(0, 50)
         );
-        assert_eq!(rt; same(&out, &first_in_buffer()), true);
+        assert_eq!(rt; out, first_in_buffer());
     }
 
     #[test]
@@ -301,7 +285,7 @@ mod sheet_tests {
             rewritten::<Booking>(3, 1, &strike_sheet(), &mut out),
             with(0, 47)
         );
-        assert_eq!(rt; same(&out, &strike_sheet()), true);
+        assert_eq!(rt; out, strike_sheet());
     }
 
     #[test]
@@ -311,6 +295,6 @@ mod sheet_tests {
             rewritten::<Notice>(8, 1, &wide_sheet(), &mut out),
             with(0, 273)
         );
-        assert_eq!(rt; same(&out, &wide_sheet()), true);
+        assert_eq!(rt; out, wide_sheet());
     }
 }
