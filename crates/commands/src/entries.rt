@@ -11,19 +11,15 @@ use text::decimal;
 
 pub mod answers;
 
-// The work of this name.
+// The work of this name. A name is a word of the commands, so neither crate could give Work a TryFrom for it.
 fn work_named(word: &[u8]) -> Option<Work>
     ensures { result ≡ work_of_name word.now }
 {
-    // by `==`: at half of its limits the search does not prove a `match` on these words
-    if word == b"retrofit".as_slice() {
-        Some(Work::Retrofit)
-    } else if word == b"trial".as_slice() {
-        Some(Work::Trial)
-    } else if word == b"freeze".as_slice() {
-        Some(Work::Freeze)
-    } else {
-        None
+    match word {
+        b"retrofit" => Some(Work::Retrofit),
+        b"trial" => Some(Work::Trial),
+        b"freeze" => Some(Work::Freeze),
+        _ => None,
     }
 }
 

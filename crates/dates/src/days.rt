@@ -52,6 +52,7 @@ fn before_year(year: u32) -> u32
 }
 
 // The year of a day, and how many days of it are past.
+// Years and months are counted alike, in four lines each: one function for both would take the lengths as a closure with a bound of its own.
 fn in_year(day: u16) -> (u32, u32)
     ensures sum { years_before (result.0 - 2000) + result.1 ≡ day }
     ensures past { result.1 < days_of_year result.0 }
@@ -105,7 +106,7 @@ fn is_known(date: Date) -> bool
         && (1..=month_length(date.year, date.month)).contains(&date.day)
 }
 
-// The day with this date, if it is one from 2000-01-01 to 2099-12-31.
+// The day with this date, if it is one from 2000-01-01 to 2099-12-31. No `TryFrom<Date>`: a bare number is a day only by this count.
 pub fn day_of(date: Date) -> Option<u16>
     ensures value { result ≡ day_at date }
     ensures meaning { DayOf date result }

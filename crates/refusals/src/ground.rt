@@ -6,7 +6,7 @@ ghost use Rattle.refusals.specs.Shown.{told, ground_text};
 use crate::refusal::Refusal;
 use std::fmt;
 
-// Why something is refused.
+// Why something is refused. Each ground's Display calls `write_refusal`: no impl can give Display to every ground at once.
 pub trait Ground: Copy {
     // the refusal, as the rules have it
     ghost by_rules: { Self → rules.Refusal };

@@ -5,6 +5,7 @@ use crate::layer::Layer;
 use std::fmt;
 
 // A refusal as it is told: its number, the number that it carries, and the layer that found it.
+// The number is the definition's, which every program tells; in the code a refusal is a ground, an enum.
 #[derive(Clone, Copy, PartialEq, Eq, Debug)]
 pub struct Refusal {
     pub number: u8,

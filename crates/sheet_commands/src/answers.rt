@@ -44,13 +44,10 @@ fn say(
         Ok(seat) => seat,
         Err(x) => return x.to_string(heap),
     };
-    // by `==`: at half of its limits the search does not prove a `match` on these words
-    if kind == b"booking".as_slice() {
-        say_sheet::<Booking>(heap, seat, bytes)
-    } else if kind == b"notice".as_slice() {
-        say_sheet::<Notice>(heap, seat, bytes)
-    } else {
-        say_usage(heap)
+    match kind {
+        b"booking" => say_sheet::<Booking>(heap, seat, bytes),
+        b"notice" => say_sheet::<Notice>(heap, seat, bytes),
+        _ => say_usage(heap),
     }
 }
 

@@ -54,6 +54,7 @@ impl<R> From<BadWord> for Problem<R> {
     }
 }
 
+// One impl for each refusal: one for every R would also be one for a word.
 impl From<SeatRefusal> for Problem<SeatRefusal> {
     ghost from_gives = { λ x y. y ≡ Refused x };
 

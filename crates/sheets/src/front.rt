@@ -64,6 +64,7 @@ impl<'a> Front<'a> {
         }
         let bytes = self.bytes;
         let at = self.place_of(k, u);
+        // four bytes by index: a slice of them would take a conversion that can fail
         u32::from_be_bytes([bytes[at], bytes[at + 1], bytes[at + 2], bytes[at + 3]])
     }
 

@@ -27,7 +27,7 @@ fn index_of(site: u8) -> Option<usize>
 }
 
 impl Row {
-    // The row of a site that is credited with nothing.
+    // The row of a site that is credited with nothing. Its name says what a Default would leave open.
     pub fn empty() -> Row
         ensures { in_row result ≡ (λ _. 0) }
     {

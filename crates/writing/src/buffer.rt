@@ -4,7 +4,7 @@ ghost use Rattle.writing.specs.Writes.{HasRoom, Writes};
 
 pub mod sheet;
 
-// The buffer, and the place that is written next.
+// The buffer, and the place that is written next: of rests that are cut off one by one the check knows no whole.
 #[derive(Drop)]
 struct Buffer<'a> {
     bytes: &'a mut [u8],
