@@ -107,11 +107,6 @@ impl<'a, V: Kind + Copy> Calendar<'a, V> {
     pub fn next(&self, at: Stamp) -> Option<Entry<V>>
         ensures { shown result ≡ after at.site at.number (calendar_means V.Kind.format self.now).entries }
     {
-        first_of(
-            self.rows.rows_from(Key {
-                site: at.site(),
-                number: at.number() + 1,
-            }),
-        )
+        first_of(self.rows.rows_from(Key::above(at)))
     }
 }

@@ -9,7 +9,7 @@ use kinds::Kind;
 use places::value_of;
 
 // An entry: the stamp of its booking, and its value.
-#[derive(Clone, Copy)]
+#[derive(Clone, Copy, PartialEq, Eq, Debug)]
 pub struct Entry<V> {
     pub at: Stamp,
     pub value: V,

@@ -3,7 +3,7 @@ ghost use Rattle.std.specs.Prelude.{◌≡◌};
 use places::{Key, Stamped};
 
 // A row of a calendar: a stamp and an entry, in plain numbers.
-#[derive(Clone, Copy)]
+#[derive(Clone, Copy, PartialEq, Eq, Debug)]
 pub struct Row {
     pub site: u8,
     pub number: u32,

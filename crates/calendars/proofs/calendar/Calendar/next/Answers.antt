@@ -1,6 +1,7 @@
-use Rattle.std.proofs.Common.{◌≡◌, ◌+◌, true, drop, sym, ap, ◌∙◌, subst}
+use Rattle.std.proofs.Common.{◌≡◌, true, drop, sym, ap, ◌∙◌, subst}
 use Rattle.std.specs.List.{list_all}
 use Rattle.rules.specs.Stamps.{least}
+use Rattle.places.specs.declared.key.Key.{Key}
 use Rattle.places.specs.Ranks.{rank}
 use Rattle.places.specs.Used.{in_use}
 use Rattle.places.proofs.Tests.{all_drop}
@@ -13,7 +14,7 @@ first_of-requires g c =
     let s = c.args.self.now in
     let rs = in_use s.rows in
     subst (λ zs. list_all sound zs ≡ true) (sym c.rows_from.ensures)
-    (all_drop sound (rank site_of number_of c.site.result (c.number.result + 1) rs) rs s.stamped)
+    (all_drop sound (rank site_of number_of c.above.result.site c.above.result.number rs) rs s.stamped)
 
 pub returns : goal.returns
 returns g c =
@@ -21,5 +22,5 @@ returns g c =
     let f = g.V.Kind.format in
     c.first_of.ensures
     ∙ ap (λ zs. least (entries_in f zs)) c.rows_from.ensures
-    ∙ (λ t. least (entries_in f (drop (rank site_of number_of (c.site.ensures.value t) (c.number.ensures.value t + 1) rs) rs)))
+    ∙ ap (λ (k : Key). least (entries_in f (drop (rank site_of number_of k.site k.number rs) rs))) c.above.ensures
     ∙ after_map (entry_in f) c.args.at.site c.args.at.number rs
