@@ -8,7 +8,7 @@ use tables::{Row, Seat, TimeTable};
 pub mod checking;
 
 // The bytes of a sheet from this writer for this seat, whose head and table are all there.
-#[derive(Clone, Copy)]
+#[derive(Clone, Copy, PartialEq, Eq, Debug)]
 struct Front<'a> {
     seat: Seat,
     writer: u8,

@@ -10,8 +10,8 @@ impl StampsLeft {
     fn origin(&self) -> Option<u8>
         ensures { IsFirstLeft self.now result }
     {
-        (1..=self.seat.sites).find(|&origin| self.done.number(origin)
-            < self.known.number(origin).min(1_000_000))
+        (1..=self.writer.seat.sites).find(|&origin| self.done.number(origin)
+            < self.writer.known.number(origin).min(1_000_000))
     }
 }
 
