@@ -4,5 +4,5 @@
 mod reader;
 mod refusal;
 
-pub use reader::{Part, Reader, RecordPart};
+pub use reader::{Part, Reader, RecordPart, Writer};
 pub use refusal::{HeadByte, NumberGround, RecordByte, SheetRefusal};

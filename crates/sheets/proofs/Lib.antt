@@ -4,3 +4,4 @@ pub mod Steps
 pub mod Fronts
 pub mod Ruled
 pub mod Judging
+pub mod Ranges

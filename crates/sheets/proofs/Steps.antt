@@ -1,6 +1,6 @@
 -- The steps of loops over a table's places.
-use Rattle.std.proofs.Common.{◌≡◌, ℕ, zero, suc, ◌+◌, ◌-◌, ◌<◌, ◌≤◌, Bool, true, false, cond, List, [], ◌∷◌, ◌++◌, Some, None, Ok, Option, Result, refl, ap, ◌∙◌, arith}
-use Rattle.std.proofs.lemmas.Bool.{cond-true, cond-false}
+use Rattle.std.proofs.Common.{◌≡◌, ℕ, zero, suc, ◌+◌, ◌-◌, ◌<◌, ◌≤◌, Bool, true, false, cond, List, [], ◌∷◌, ◌++◌, Some, None, Ok, Option, Result, refl, ap, ◌∙◌, inl, inr, arith}
+use Rattle.std.proofs.lemmas.Bool.{cases_order, cond-true, cond-false}
 use Rattle.rules.specs.Results.{◌>>=◌, none_of, first}
 use Rattle.rules.specs.Sheets.{run, runs, cells}
 
@@ -31,6 +31,25 @@ module _ (p : ℕ × ℕ → Bool) (N k : ℕ) where
 
   pub row_end : (u : ℕ) → N < u → in_row_from u ≡ None
   row_end u h = let e : N + 1 - u ≡ 0 = omega arith in ap (λ m. first p (run k u m)) e
+
+-- the first place of row k that passes, or none where none does
+module _ (p : ℕ × ℕ → Bool) (k : ℕ) where
+  pub row_none : (u m : ℕ) → ((v : ℕ) → u ≤ v → v < u + m → p (k, v) ≡ false) → first p (run k u m) ≡ None
+  row_none u zero h = refl
+  row_none u (suc m) h =
+      cond-false (p (k, u)) _ _ (h u (omega arith) (omega arith)) ∙ row_none (u + 1) m (λ v a b. h v (omega arith) (omega arith))
+
+  pub row_some : (u m i : ℕ) → u ≤ i → i < u + m → p (k, i) ≡ true → ((v : ℕ) → u ≤ v → v < i → p (k, v) ≡ false) → first p (run k u m) ≡ Some (k, i)
+  row_some u zero i a b e h = absurd (omega arith)
+  row_some u (suc m) i a b e h =
+      elim (cases_order u i) [
+        | inl q ↦ cond-true (p (k, u)) _ _ (ap (λ v. p (k, v)) q ∙ e) ∙ ap (λ v. Some (k, v)) q
+        | inr o ↦ elim o [
+          | inl l ↦
+              cond-false (p (k, u)) _ _ (h u (omega arith) l) ∙ row_some (u + 1) m i (omega arith) (omega arith) e (λ v c d. h v (omega arith) d)
+          | inr g ↦ absurd (omega arith)
+        ]
+      ]
 
 -- what is found in the first places, else in the others
 module _ {A X : Type 0} (p : A → Bool) (g : A → X) where

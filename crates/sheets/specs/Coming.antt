@@ -30,29 +30,29 @@ read_all K N known bs (s ∷ ss) at = more s (read_all K N known bs ss) (record_
 
 -- of the origin u no event is left
 abbrev pub NoneLeft : StampsLeft → ℕ → Type 0
-NoneLeft c u = capped (in_row c.known) u ≤ capped (in_row c.done) u
+NoneLeft c u = capped (in_row c.writer.known) u ≤ capped (in_row c.done) u
 
 -- the first origin of which an event is left, if there is one
 abbrev pub IsFirstLeft : StampsLeft → Option ℕ → Type 0
-IsFirstLeft c None = (u : ℕ) → Within c.seat.sites u → NoneLeft c u
+IsFirstLeft c None = (u : ℕ) → Within c.writer.seat.sites u → NoneLeft c u
 IsFirstLeft c (Some u) =
-    Within c.seat.sites u × (capped (in_row c.done) u < capped (in_row c.known) u) × ((v : ℕ) → 1 ≤ v → v < u → NoneLeft c v)
+    Within c.writer.seat.sites u × (capped (in_row c.done) u < capped (in_row c.writer.known) u) × ((v : ℕ) → 1 ≤ v → v < u → NoneLeft c v)
 
 -- the stamps that are left: of each origin those behind the ones that are done, up to what the writer knows
 abbrev pub stamps_left : StampsLeft → List Stamp
 stamps_left c =
-    runs (λ u. capped (in_row c.done) u + 1) (λ u. capped (in_row c.known) u - capped (in_row c.done) u) 1 c.seat.sites
+    runs (λ u. capped (in_row c.done) u + 1) (λ u. capped (in_row c.writer.known) u - capped (in_row c.done) u) 1 c.writer.seat.sites
 
--- the first of them is given, or none where none is left; the group and what the writer knows stay
+-- the first of them is given, or none where none is left; the writer stays
 abbrev pub GivesStamp : StampsLeft → Option events.Stamp → StampsLeft → Type 0
-GivesStamp c r d = YieldsFirstBy stamp_of stamps_left c r d × (d.seat ≡ c.seat) × (d.known ≡ c.known)
+GivesStamp c r d = YieldsFirstBy stamp_of stamps_left c r d × (d.writer ≡ c.writer)
 
 abbrev pub to_come : {E : Type 0} → SheetRecords E → List Stamp
 to_come c = stamps_left c.stamps
 
 abbrev pub records_of : {E : Type 0} → Format E → SheetRecords E → List (Record E)
 records_of f c =
-    read_all (rule_of f) c.stamps.seat.sites (capped (in_row c.stamps.known)) c.reader.bytes.now (to_come c) c.reader.place
+    read_all (rule_of f) c.stamps.writer.seat.sites (capped (in_row c.stamps.writer.known)) c.reader.bytes.now (to_come c) c.reader.place
 
 -- these are the records of a sheet with this writer and this table: wherever it can be read as such a sheet, with an own row or without, they are read
 abbrev pub ReadAgain : {E : Type 0} → Format E → Seat → (k : ℕ) → Table → List ℕ → List (Record E) → Type 0

@@ -8,7 +8,7 @@ use tables::{Row, Seat, TimeTable};
 pub mod checking;
 
 // The bytes of a sheet from this writer for this seat, whose head and table are all there.
-#[derive(Clone, Copy)]
+#[derive(Clone, Copy, PartialEq, Eq, Debug)]
 struct Front<'a> {
     seat: Seat,
     writer: u8,
@@ -138,11 +138,11 @@ impl<'a> Front<'a> {
         let Some(own) = own else {
             return Ok(());
         };
-        for origin in 1..=self.seat.sites {
-            if self.number(self.seat.own, origin) > own.number(origin) {
-                return Err(SheetRefusal::BeyondOwnRow { origin });
-            }
+        let beyond = (1..=self.seat.sites).find(|&origin| self.number(self.seat.own, origin)
+            > own.number(origin));
+        match beyond {
+            Some(origin) => Err(SheetRefusal::BeyondOwnRow { origin }),
+            None => Ok(()),
         }
-        Ok(())
     }
 }

@@ -20,25 +20,24 @@ use tables::{Row, Seat};
 fn read_head(bytes: &[u8], seat: Seat, code: u8) -> Result<u8, SheetRefusal>
     ensures { result ≡ head_judged seat.sites seat.own code bytes.now }
 {
-    if bytes.len() < 5 {
+    let [version, sites, writer, addressee, kind, ..] = *bytes else {
         return Err(SheetRefusal::EndsEarly {
             length: bytes.len(),
         });
-    }
-    if bytes[0] != 1 {
+    };
+    if version != 1 {
         return Err(SheetRefusal::Head(HeadByte::Version));
     }
-    if bytes[1] != seat.sites {
+    if sites != seat.sites {
         return Err(SheetRefusal::Head(HeadByte::Sites));
     }
-    let writer = bytes[2];
     if !seat.has(writer) || writer == seat.own {
         return Err(SheetRefusal::Head(HeadByte::Writer));
     }
-    if bytes[3] != seat.own {
+    if addressee != seat.own {
         return Err(SheetRefusal::Head(HeadByte::Addressee));
     }
-    if bytes[4] != code {
+    if kind != code {
         return Err(SheetRefusal::Head(HeadByte::Kind));
     }
     Ok(writer)

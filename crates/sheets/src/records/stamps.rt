@@ -10,12 +10,8 @@ impl StampsLeft {
     fn origin(&self) -> Option<u8>
         ensures { IsFirstLeft self.now result }
     {
-        for origin in 1..=self.seat.sites {
-            if self.done.number(origin) < self.known.number(origin).min(1_000_000) {
-                return Some(origin);
-            }
-        }
-        None
+        (1..=self.writer.seat.sites).find(|&origin| self.done.number(origin)
+            < self.writer.known.number(origin).min(1_000_000))
     }
 }
 

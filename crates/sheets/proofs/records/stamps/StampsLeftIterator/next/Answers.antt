@@ -13,8 +13,8 @@ use Rattle.sheets.proofs.records.stamps.StampsLeftIterator.next.Goals as goal
 pub returns-in_err-origin-clause-steps : goal.returns-in_err-origin-clause-steps
 returns-in_err-origin-clause-steps c =
     let s = c.args.self.now in
-    let e = none_left (capped (in_row s.known)) (capped (in_row s.done)) 1 s.seat.sites (λ v a b. c.in_err-origin.ensures v (a, omega arith)) in
-    (subst (λ r. YieldsFirstBy stamp_of stamps_left s r s) (sym c.from_residual.ensures) (e, e), refl, refl)
+    let e = none_left (capped (in_row s.writer.known)) (capped (in_row s.done)) 1 s.writer.seat.sites (λ v a b. c.in_err-origin.ensures v (a, omega arith)) in
+    (subst (λ r. YieldsFirstBy stamp_of stamps_left s r s) (sym c.from_residual.ensures) (e, e), refl)
 
 taken : (c : After-ok) → YieldsFirstBy stamp_of stamps_left c.args.self.now c.ok.result (record c.args.self.now { done = c.set_number.new.self })
 taken c =
@@ -24,13 +24,13 @@ taken c =
     let n = c.number-number.result in
     let h = c.in_ok-origin.ensures in
     let p = stamp_made c.new.result u (n + 1) (omega arith) (omega arith) c.new.ensures.value in
-    let e = next_left (in_row s.known) (in_row s.done) (in_row t.done) s.seat.sites u n h.0 c.number-number.ensures h.1 h.2
+    let e = next_left (in_row s.writer.known) (in_row s.done) (in_row t.done) s.writer.seat.sites u n h.0 c.number-number.ensures h.1 h.2
     (c.set_number.ensures.inside (omega arith)) in
     let q : stamps_left s ≡ stamp_of p.0 ∷ stamps_left t = rw p.2 e in
     subst (λ r. YieldsFirstBy stamp_of stamps_left s r t) (sym (c.ok.ensures.value ∙ ap result_ok p.1)) q
 
 pub returns-clause-steps : goal.returns-clause-steps
-returns-clause-steps c = (taken c, refl, refl)
+returns-clause-steps c = (taken c, refl)
 
 pub returns-clause-goes : goal.returns-clause-goes
 returns-clause-goes c = first_goes stamp_of stamps_left _ _ _ (taken c)
