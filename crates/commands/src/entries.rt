@@ -15,11 +15,15 @@ pub mod answers;
 fn work_named(word: &[u8]) -> Option<Work>
     ensures { result ≡ work_of_name word.now }
 {
-    match word {
-        b"retrofit" => Some(Work::Retrofit),
-        b"trial" => Some(Work::Trial),
-        b"freeze" => Some(Work::Freeze),
-        _ => None,
+    // by `==`: of a `match` on these words the proof does not close
+    if word == b"retrofit".as_slice() {
+        Some(Work::Retrofit)
+    } else if word == b"trial".as_slice() {
+        Some(Work::Trial)
+    } else if word == b"freeze".as_slice() {
+        Some(Work::Freeze)
+    } else {
+        None
     }
 }
 
