@@ -4,8 +4,8 @@ ghost use Rattle.commands.specs.Usages.{usage_text};
 
 use std::fmt;
 
-// What is said of a command that has other words than it should, of all commands, and of one that there is not.
-#[derive(Clone, Copy)]
+// What is said of a command that has other words than it should, of all commands, and what is said of a word that is no command.
+#[derive(Clone, Copy, PartialEq, Eq, Debug)]
 pub(crate) enum Usage {
     Entry,
     Booking,

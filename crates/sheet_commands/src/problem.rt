@@ -8,7 +8,7 @@ use std::fmt;
 use tables::SeatRefusal;
 
 // A word that is not what is asked for.
-#[derive(Clone, Copy)]
+#[derive(Clone, Copy, PartialEq, Eq, Debug)]
 pub enum BadWord {
     // no decimal digits
     Number,
@@ -40,7 +40,7 @@ impl fmt::Display for BadWord {
 }
 
 // What is wrong with a command: a word, or what its words make is refused.
-#[derive(Clone, Copy)]
+#[derive(Clone, Copy, PartialEq, Eq, Debug)]
 pub enum Problem<R> {
     Word(BadWord),
     Refused(R),

@@ -1,7 +1,7 @@
 // What is printed for a line.
 ghost use Rattle.std.specs.Prelude.{◌≡◌, IfOk, string_bytes};
 ghost use Rattle.text.specs.Hexadecimals.{hex_text_of};
-ghost use Rattle.commands.specs.Answers.{entry_answer, booking_answer, notice_answer, stamp_answer, answer_of};
+ghost use Rattle.commands.specs.Answers.{entry_said, entry_answer, booking_answer, notice_answer, stamp_answer, answer_of};
 ghost use Rattle.commands.specs.Entries.{entry_read};
 ghost use Rattle.commands.specs.Texts.{bytes_text, said};
 
@@ -45,6 +45,17 @@ fn say_words<K: InWords>(heap: Global, digits: &[u8]) -> Result<String, AllocErr
     }
 }
 
+// What is said of an entry of the kind that the word names.
+fn say_entry(heap: Global, kind: &[u8], digits: &[u8]) -> Result<String, AllocError>
+    ensures { IfOk result (λ s. string_bytes s ≡ entry_said kind.now digits.now) }
+{
+    match kind {
+        b"booking" => say_words::<Booking>(heap, digits),
+        b"notice" => say_words::<Notice>(heap, digits),
+        _ => Usage::Entry.to_string(heap),
+    }
+}
+
 // `entry KIND HEX`: the entry in words.
 fn answer_entry(heap: Global, rest: &[u8]) -> Result<String, AllocError>
     ensures { IfOk result (λ s. string_bytes s ≡ entry_answer rest.now) }
@@ -53,14 +64,7 @@ fn answer_entry(heap: Global, rest: &[u8]) -> Result<String, AllocError>
     if !more.is_empty() {
         return Usage::Entry.to_string(heap);
     }
-    // by `==`: at the last arm of a `match` the proof does not close
-    if kind == b"booking".as_slice() {
-        say_words::<Booking>(heap, digits)
-    } else if kind == b"notice".as_slice() {
-        say_words::<Notice>(heap, digits)
-    } else {
-        Usage::Entry.to_string(heap)
-    }
+    say_entry(heap, kind, digits)
 }
 
 // `booking LINE FIRST LAST WORK CREW`: the bytes of the booking.
@@ -82,7 +86,7 @@ fn answer_notice(heap: Global, rest: &[u8]) -> Result<String, AllocError>
     if !more.is_empty() {
         return Usage::Notice.to_string(heap);
     }
-    // by `==`: at the last arm of a `match` with this guard the proof does not close
+    // by `==`: a `match` with this guard, or on both words, is not proved at its last arm
     if form == b"out".as_slice() {
         say_bytes(heap, line_out(first, second))
     } else if form == b"word".as_slice() && second.is_empty() {
