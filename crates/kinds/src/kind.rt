@@ -1,5 +1,5 @@
 // What a kind of entry is.
-ghost use Rattle.std.specs.Prelude.{◌≡◌, ℕ};
+ghost use Rattle.std.specs.Prelude.{◌≡◌, ℕ, length};
 ghost use Rattle.rules.specs.Kinds.{LawfulKind};
 ghost use Rattle.kinds.specs.Formats.{Format, rule_of, padded};
 
@@ -53,5 +53,17 @@ impl Field {
         ensures { result ≡ EntryRefusal.Field self place }
     {
         EntryRefusal::Field { field: self, place }
+    }
+}
+
+impl EntryRefusal {
+    // The refusal of bytes that are more or fewer than an entry has.
+    pub(crate) fn bad_length(bytes: &[u8], width: usize) -> EntryRefusal
+        ensures { result ≡ EntryRefusal.Length (length bytes.now) width }
+    {
+        EntryRefusal::Length {
+            length: bytes.len(),
+            width,
+        }
     }
 }

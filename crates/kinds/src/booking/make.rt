@@ -122,10 +122,7 @@ impl Kind for Booking {
 
     fn decode(bytes: &[u8]) -> Result<Booking, EntryRefusal> {
         let [l0, l1, f0, f1, t0, t1, work, crew] = bytes else {
-            return Err(EntryRefusal::Length {
-                length: bytes.len(),
-                width: Self::WIDTH,
-            });
+            return Err(EntryRefusal::bad_length(bytes, Self::WIDTH));
         };
         let line = u16::from_be_bytes([*l0, *l1]);
         let first = u16::from_be_bytes([*f0, *f1]);

@@ -11,6 +11,12 @@ use crate::refusal::{EntryRefusal, Field};
 use dates::date_of;
 use std::fmt;
 
+// The tag of a notice that a line is out.
+const LINE_OUT: u8 = 1;
+
+// The tag of a notice of four letters.
+const WORD: u8 = 3;
+
 // The place of the first byte that is no letter.
 fn first_no_letter(bytes: &[u8]) -> Option<usize>
     ensures { result ≡ position (λ x. not (is_ascii_uppercase x)) bytes.now }
@@ -67,14 +73,14 @@ impl Kind for Notice {
 
     fn decode(bytes: &[u8]) -> Result<Notice, EntryRefusal> {
         let [tag, a, b, c, d] = bytes else {
-            return Err(EntryRefusal::Length {
-                length: bytes.len(),
-                width: Self::WIDTH,
-            });
+            return Err(EntryRefusal::bad_length(bytes, Self::WIDTH));
         };
         match *tag {
-            1 => Notice::line_out(u16::from_be_bytes([*a, *b]), u16::from_be_bytes([*c, *d])),
-            3 => Notice::word(*a, *b, *c, *d),
+            LINE_OUT => Notice::line_out(
+                u16::from_be_bytes([*a, *b]),
+                u16::from_be_bytes([*c, *d]),
+            ),
+            WORD => Notice::word(*a, *b, *c, *d),
             _ => Err(Field::Tag.bad_at(0)),
         }
     }
@@ -83,12 +89,12 @@ impl Kind for Notice {
         let mut bytes = [0; 16];
         match self {
             Notice::LineOut(x) => {
-                bytes[0] = 1;
+                bytes[0] = LINE_OUT;
                 bytes[1..3].copy_from_slice(&x.line.to_be_bytes());
                 bytes[3..5].copy_from_slice(&x.day.to_be_bytes());
             }
             Notice::Word(w) => {
-                bytes[0] = 3;
+                bytes[0] = WORD;
                 bytes[1..5].copy_from_slice(&w.letters);
             }
         }
