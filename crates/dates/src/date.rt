@@ -4,7 +4,7 @@ ghost use Rattle.dates.specs.Days.{date_text};
 
 use std::fmt;
 
-// A date: year, month 1 to 12, day 1 to 31.
+// A date as it is written: a year, a month and a day of the month. `day_of` says whether there is such a date.
 #[derive(Clone, Copy, PartialEq, Eq, PartialOrd, Ord, Hash, Debug)]
 pub struct Date {
     pub year: u32,

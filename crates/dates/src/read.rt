@@ -6,7 +6,7 @@ use crate::date::Date;
 use text::{decimal, split_once};
 
 // The date that a text writes, as 2024-08-22. Whether there is such a date is another question.
-// No `TryFrom<&[u8]>`: bytes hold a date in other forms too.
+// No `TryFrom<&[u8]>`: `None` says all, and an error type would put `.ok_or(NoDate)` before each `?` here and `.ok()` at the caller.
 pub fn read_date(text: &[u8]) -> Option<Date>
     ensures { result ≡ date_read text.now }
 {
