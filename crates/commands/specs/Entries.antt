@@ -8,7 +8,7 @@ use Rattle.dates.specs.Days.{day_at}
 use Rattle.dates.specs.Text.{with_some, date_read}
 use Rattle.kinds.specs.declared.booking.Booking.{Booking}
 use Rattle.kinds.specs.declared.notice.Notice.{Notice}
-use Rattle.kinds.specs.Bookings.{booking_from}
+use Rattle.kinds.specs.Bookings.{booking_from, work_of_name}
 use Rattle.kinds.specs.Notices.{line_out_from, word_from}
 use Rattle.kinds.specs.declared.refusal.EntryRefusal.{EntryRefusal}
 use Rattle.kinds.specs.Formats.{Format}
@@ -17,7 +17,6 @@ use Rattle.sheet_commands.specs.declared.problem.BadWord.TheVariants.{Day, Work,
 use Rattle.sheet_commands.specs.declared.problem.Problem.{Problem}
 use Rattle.sheet_commands.specs.declared.problem.Problem.TheVariants.{Word, Refused}
 use Rattle.sheet_commands.specs.Words.{number_read}
-use Rattle.commands.specs.Names.{work_of_name}
 
 -- a day, by its number or its date
 abbrev pub day_from : Option ℕ → List ℕ → Result ℕ BadWord

@@ -2,7 +2,6 @@
 ghost use Rattle.std.specs.Prelude.{◌≡◌};
 ghost use Rattle.std.specs.Option.{option_map};
 ghost use Rattle.commands.specs.Entries.{day_read, booking_read, line_out_read, word_read, entry_of};
-ghost use Rattle.commands.specs.Names.{work_of_name};
 
 use dates::{day_of, read_date};
 use kinds::{Booking, EntryRefusal, Kind, Notice, Work};
@@ -10,22 +9,6 @@ use sheet_commands::{BadWord, Problem, number};
 use text::decimal;
 
 pub mod answers;
-
-// The work of this name. A name is a word of the commands, so neither crate could give Work a TryFrom for it.
-fn work_named(word: &[u8]) -> Option<Work>
-    ensures { result ≡ work_of_name word.now }
-{
-    // by `==`: of a `match` on these words the proof does not close
-    if word == b"retrofit".as_slice() {
-        Some(Work::Retrofit)
-    } else if word == b"trial".as_slice() {
-        Some(Work::Trial)
-    } else if word == b"freeze".as_slice() {
-        Some(Work::Freeze)
-    } else {
-        None
-    }
-}
 
 // A day, by its number or its date; a number that is too large reads as the largest.
 fn day(word: &[u8]) -> Result<u16, BadWord>
@@ -52,7 +35,7 @@ fn booking(
     let line = u16::try_from(number(line)?).unwrap_or(u16::MAX);
     let first = day(first)?;
     let last = day(last)?;
-    let work = work_named(work).ok_or(BadWord::Work)?;
+    let work = Work::named(work).ok_or(BadWord::Work)?;
     let crew = u8::try_from(number(crew)?).unwrap_or(u8::MAX);
     Ok(Booking::new(line, first, last, work, crew)?)
 }

@@ -1,6 +1,7 @@
 -- Bookings: line, first day and last day in two bytes each, the work and the crew in one.
 -- Assumes nothing.
-use Rattle.std.specs.Prelude.{ℕ, zero, suc, List, [], ◌∷◌, ◌++◌, length, Some, None, Ok, Err, codes, decimal, Option, Result, slice_index}
+use Rattle.std.specs.Prelude.{ℕ, zero, suc, cond, List, [], ◌∷◌, ◌++◌, length, Some, None, Ok, Err, codes, decimal, Option, Result, slice_index}
+use Rattle.std.specs.Str.{bytes_eq}
 use Rattle.std.proofs.Math.Decide.{dec_le, ℕ_discrete}
 use Rattle.std.proofs.Common.{lit≤}
 use Rattle.rules.specs.Numbers.{be16, at16}
@@ -67,6 +68,12 @@ abbrev pub work_text : Work → List ℕ
 work_text Retrofit = codes "retrofit"
 work_text Trial = codes "trial"
 work_text Freeze = codes "freeze"
+
+-- the work of a name
+abbrev pub work_of_name : List ℕ → Option Work
+work_of_name w =
+    cond (bytes_eq w (codes "retrofit")) (Some Retrofit)
+    (cond (bytes_eq w (codes "trial")) (Some Trial) (cond (bytes_eq w (codes "freeze")) (Some Freeze) None))
 
 abbrev pub booking_text : Booking → List ℕ
 booking_text b =

@@ -1,6 +1,6 @@
 // Bookings: eight bytes, code 1.
 ghost use Rattle.std.specs.Prelude.{◌≡◌, refl, Some};
-ghost use Rattle.kinds.specs.Bookings.{work_byte, work_of, work_text, booking_from, booking_text, bookings};
+ghost use Rattle.kinds.specs.Bookings.{work_byte, work_of, work_of_name, work_text, booking_from, booking_text, bookings};
 ghost use Rattle.kinds.specs.Booked.{bookings_lawful};
 
 use crate::booking::{Booking, Work};
@@ -28,6 +28,22 @@ impl Work {
             2 => Some(Work::Trial),
             3 => Some(Work::Freeze),
             _ => None,
+        }
+    }
+
+    // The work of this name, which `Display` writes. An `Option`, and no `TryFrom`: an error type of its own would say no more.
+    pub fn named(name: &[u8]) -> Option<Work>
+        ensures { result ≡ work_of_name name.now }
+    {
+        // by `==`: of a `match` on these words the proof does not close
+        if name == b"retrofit".as_slice() {
+            Some(Work::Retrofit)
+        } else if name == b"trial".as_slice() {
+            Some(Work::Trial)
+        } else if name == b"freeze".as_slice() {
+            Some(Work::Freeze)
+        } else {
+            None
         }
     }
 }
