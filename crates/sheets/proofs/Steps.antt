@@ -1,36 +1,8 @@
--- The steps of loops over a table's places.
-use Rattle.std.proofs.Common.{◌≡◌, ℕ, zero, suc, ◌+◌, ◌-◌, ◌<◌, ◌≤◌, Bool, true, false, cond, List, [], ◌∷◌, ◌++◌, Some, None, Ok, Option, Result, refl, ap, ◌∙◌, inl, inr, arith}
+-- Searches and checks over a table's places.
+use Rattle.std.proofs.Common.{◌≡◌, ℕ, zero, suc, ◌+◌, ◌<◌, ◌≤◌, Bool, true, false, cond, List, [], ◌∷◌, ◌++◌, Some, None, Ok, Err, Result, refl, ap, ◌∙◌, inl, inr, arith}
 use Rattle.std.proofs.lemmas.Bool.{cases_order, cond-true, cond-false}
 use Rattle.rules.specs.Results.{◌>>=◌, none_of, first}
-use Rattle.rules.specs.Sheets.{run, runs, cells}
-
--- one more of a run, and one more run
-run_more : (k n m : ℕ) → 1 ≤ m → run k n m ≡ (k, n) ∷ run k (n + 1) (m - 1)
-run_more k n zero h = absurd (omega arith)
-run_more k n (suc m) h = let e : m ≡ suc m - 1 = omega arith in ap (λ x. (k, n) ∷ run k (n + 1) x) e
-
-runs_more : (f c : ℕ → ℕ) (v m : ℕ) → 1 ≤ m → runs f c v m ≡ run v (f v) (c v) ++ runs f c (v + 1) (m - 1)
-runs_more f c v zero h = absurd (omega arith)
-runs_more f c v (suc m) h = let e : m ≡ suc m - 1 = omega arith in ap (λ x. run v (f v) (c v) ++ runs f c (v + 1) x) e
-
--- a search in row k from column u on
-module _ (p : ℕ × ℕ → Bool) (N k : ℕ) where
-  abbrev pub in_row_from : ℕ → Option (ℕ × ℕ)
-  in_row_from u = first p (run k u (N + 1 - u))
-
-  step : (u : ℕ) → u ≤ N → in_row_from u ≡ first p ((k, u) ∷ run k (u + 1) (N + 1 - (u + 1)))
-  step u h =
-      let e : N + 1 - u - 1 ≡ N + 1 - (u + 1) = omega arith in
-      ap (first p) (run_more k u (N + 1 - u) (omega arith) ∙ ap (λ x. (k, u) ∷ run k (u + 1) x) e)
-
-  pub row_here : (u : ℕ) → u ≤ N → p (k, u) ≡ true → in_row_from u ≡ Some (k, u)
-  row_here u h e = step u h ∙ cond-true (p (k, u)) _ _ e
-
-  pub row_on : (u : ℕ) → u ≤ N → p (k, u) ≡ false → in_row_from u ≡ in_row_from (u + 1)
-  row_on u h e = step u h ∙ cond-false (p (k, u)) _ _ e
-
-  pub row_end : (u : ℕ) → N < u → in_row_from u ≡ None
-  row_end u h = let e : N + 1 - u ≡ 0 = omega arith in ap (λ m. first p (run k u m)) e
+use Rattle.rules.specs.Sheets.{run, runs}
 
 -- the first place of row k that passes, or none where none does
 module _ (p : ℕ × ℕ → Bool) (k : ℕ) where
@@ -62,20 +34,38 @@ module _ {A X : Type 0} (p : A → Bool) (g : A → X) where
       by true e = refl
       by false e = e
 
--- from row k on
-module _ {X : Type 0} (p : ℕ × ℕ → Bool) (g : ℕ × ℕ → X) (N : ℕ) where
-  abbrev pub from_row : ℕ → Result (Unit {0}) X
-  from_row k = none_of (first p (runs (λ _. 1) (λ _. N) k (N + 1 - k))) g
+-- a check at each of m numbers, from u on: the first refusal is the answer
+abbrev pub tried : {X : Type 0} → (ℕ → Result (Unit {0}) X) → (u m : ℕ) → Result (Unit {0}) X
+tried h u zero = Ok tt
+tried h u (suc m) = h u >>= λ _. tried h (u + 1) m
 
-  pub rows_start : from_row 1 ≡ none_of (first p (cells N)) g
-  rows_start = let e : N + 1 - 1 ≡ N = omega arith in ap (λ m. none_of (first p (runs (λ _. 1) (λ _. N) 1 m)) g) e
+module _ {X : Type 0} (h : ℕ → Result (Unit {0}) X) where
+  pub tried_ok : (u m : ℕ) → ((k : ℕ) → u ≤ k → k < u + m → h k ≡ Ok tt) → tried h u m ≡ Ok tt
+  tried_ok u zero a = refl
+  tried_ok u (suc m) a =
+      ap (λ z. z >>= λ _. tried h (u + 1) m) (a u (omega arith) (omega arith)) ∙ tried_ok (u + 1) m (λ k b c. a k (omega arith) (omega arith))
 
-  pub rows_step : (k : ℕ) → k ≤ N → from_row k ≡ (none_of (first p (run k 1 N)) g >>= λ _. from_row (k + 1))
-  rows_step k h =
-      let e : N + 1 - k - 1 ≡ N + 1 - (k + 1) = omega arith in
-      ap (λ cs. none_of (first p cs) g)
-      (runs_more (λ _. 1) (λ _. N) k (N + 1 - k) (omega arith) ∙ ap (λ x. run k 1 N ++ runs (λ _. 1) (λ _. N) (k + 1) x) e)
-      ∙ found_then p g (run k 1 N) (runs (λ _. 1) (λ _. N) (k + 1) (N + 1 - (k + 1)))
+  pub tried_err : (u m i : ℕ) (y : X) → u ≤ i → i < u + m → h i ≡ Err y → ((k : ℕ) → u ≤ k → k < i → h k ≡ Ok tt) → tried h u m ≡ Err y
+  tried_err u zero i y a b e o = absurd (omega arith)
+  tried_err u (suc m) i y a b e o =
+      elim (cases_order u i) [
+        | inl q ↦ ap (λ z. z >>= λ _. tried h (u + 1) m) (ap h q ∙ e)
+        | inr w ↦ elim w [
+          | inl l ↦
+              ap (λ z. z >>= λ _. tried h (u + 1) m) (o u (omega arith) l)
+              ∙ tried_err (u + 1) m i y (omega arith) (omega arith) e (λ k c d. o k (omega arith) d)
+          | inr g ↦ absurd (omega arith)
+        ]
+      ]
 
-  pub rows_end : (k : ℕ) → N < k → from_row k ≡ Ok tt
-  rows_end k h = let e : N + 1 - k ≡ 0 = omega arith in ap (λ m. none_of (first p (runs (λ _. 1) (λ _. N) k m)) g) e
+-- a row is checked number by number, and a table row by row
+module _ {X : Type 0} (p : ℕ × ℕ → Bool) (g : ℕ × ℕ → X) where
+  pub row_tried : (k u m : ℕ) → none_of (first p (run k u m)) g ≡ tried (λ v. none_of (first p ((k, v) ∷ [])) g) u m
+  row_tried k u zero = refl
+  row_tried k u (suc m) =
+      found_then p g ((k, u) ∷ []) (run k (u + 1) m) ∙ ap (λ z. none_of (first p ((k, u) ∷ [])) g >>= λ _. z) (row_tried k (u + 1) m)
+
+  pub rows_tried : (N k m : ℕ) → none_of (first p (runs (λ _. 1) (λ _. N) k m)) g ≡ tried (λ r. none_of (first p (run r 1 N)) g) k m
+  rows_tried N k zero = refl
+  rows_tried N k (suc m) =
+      found_then p g (run k 1 N) (runs (λ _. 1) (λ _. N) (k + 1) m) ∙ ap (λ z. none_of (first p (run k 1 N)) g >>= λ _. z) (rows_tried N (k + 1) m)

@@ -17,14 +17,14 @@ struct Front<'a> {
 }
 
 impl<'a> Front<'a> {
-    ghost use Rattle.std.specs.Prelude.{◌≡◌, ◌+◌, nat_le, IfOk};
+    ghost use Rattle.std.specs.Prelude.{◌≡◌, ◌+◌, nat_le, IfOk, [], ◌∷◌};
     ghost use Rattle.std.specs.Option.{option_map};
     ghost use Rattle.rules.specs.Results.{require, forgotten};
     ghost use Rattle.rules.specs.Stamps.{Within};
     ghost use Rattle.rules.specs.Sheets.{place_of};
     ghost use Rattle.tables.specs.Numbers.{in_row, number};
     ghost use Rattle.readers.specs.declared.refusal.SheetRefusal.TheVariants.{EndsEarly};
-    ghost use Rattle.sheets.specs.Judged.{row_judged, table_judged, own_judged};
+    ghost use Rattle.sheets.specs.Judged.{cells_judged, row_judged, table_judged, own_judged};
     ghost use Rattle.sheets.specs.Front.{front_table};
     ghost use Rattle.sheets.specs.Told.{ground_found};
 
@@ -108,27 +108,31 @@ impl<'a> Front<'a> {
         None
     }
 
+    // The number for a site and an origin is not bad.
+    fn check_number(&self, k: u8, u: u8) -> Result<(), SheetRefusal>
+        ensures { result ≡ cells_judged self.now.seat.sites self.now.writer (front_table self.now) ((k, u) ∷ []) }
+    {
+        match self.ground(k, u) {
+            Some(ground) => Err(SheetRefusal::Table {
+                place: self.place_of(k, u),
+                ground,
+            }),
+            None => Ok(()),
+        }
+    }
+
     // The row of a site has no bad number.
     fn check_row(&self, k: u8) -> Result<(), SheetRefusal>
         ensures { result ≡ row_judged self.now.seat.sites self.now.writer (front_table self.now) k }
     {
-        for u in 1..=self.seat.sites {
-            if let Some(ground) = self.ground(k, u) {
-                let place = self.place_of(k, u);
-                return Err(SheetRefusal::Table { place, ground });
-            }
-        }
-        Ok(())
+        (1..=self.seat.sites).try_for_each(|u| self.check_number(k, u))
     }
 
     // The table has no bad number.
     fn check_table(&self) -> Result<(), SheetRefusal>
         ensures { result ≡ table_judged self.now.seat.sites self.now.writer (front_table self.now) }
     {
-        for k in 1..=self.seat.sites {
-            self.check_row(k)?;
-        }
-        Ok(())
+        (1..=self.seat.sites).try_for_each(|k| self.check_row(k))
     }
 
     // The table credits the addressee with no more than its own row, where one is given.
