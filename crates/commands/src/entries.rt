@@ -1,6 +1,7 @@
 // Entries that are written in words, or in hexadecimal digits.
 ghost use Rattle.std.specs.Prelude.{◌≡◌};
 ghost use Rattle.std.specs.Option.{option_map};
+ghost use Rattle.sheet_commands.specs.Words.{number_up_to};
 ghost use Rattle.commands.specs.Entries.{day_read, booking_read, line_out_read, word_read, entry_of};
 
 use dates::{day_of, read_date};
@@ -22,6 +23,13 @@ fn day(word: &[u8]) -> Result<u16, BadWord>
     }
 }
 
+// A line; a number that is too large reads as the largest.
+fn line_number(word: &[u8]) -> Result<u16, BadWord>
+    ensures { result ≡ number_up_to 65535 word.now }
+{
+    Ok(u16::try_from(number(word)?).unwrap_or(u16::MAX))
+}
+
 // A booking by its five words.
 fn booking(
     line: &[u8],
@@ -32,7 +40,7 @@ fn booking(
 ) -> Result<Booking, Problem<EntryRefusal>>
     ensures { result ≡ booking_read line.now first.now last.now work.now crew.now }
 {
-    let line = u16::try_from(number(line)?).unwrap_or(u16::MAX);
+    let line = line_number(line)?;
     let first = day(first)?;
     let last = day(last)?;
     let work = Work::named(work).ok_or(BadWord::Work)?;
@@ -44,7 +52,7 @@ fn booking(
 fn line_out(line: &[u8], on: &[u8]) -> Result<Notice, Problem<EntryRefusal>>
     ensures { result ≡ line_out_read line.now on.now }
 {
-    let line = u16::try_from(number(line)?).unwrap_or(u16::MAX);
+    let line = line_number(line)?;
     let on = day(on)?;
     Ok(Notice::line_out(line, on)?)
 }

@@ -1,6 +1,7 @@
 // What is printed for a line that looks at a sheet.
 ghost use Rattle.std.specs.Prelude.{◌≡◌, IfOk, string_bytes};
 ghost use Rattle.std.specs.Option.{option_map};
+ghost use Rattle.sheet_commands.specs.Words.{number_up_to};
 ghost use Rattle.sheet_commands.specs.Answers.{usage_text, seat_read, seat_shown, seat_said, sheet_answer, file_name_of, file_answer};
 
 use crate::lines::say_sheet;
@@ -22,12 +23,19 @@ pub fn say_usage(heap: Global) -> Result<String, AllocError>
     String::from_str(heap, USAGE)
 }
 
-// The seat that two words name; a number that is too large reads as 255, which no group has.
+// A group's size or a site; a number that is too large reads as 255, which no group has.
+fn site_number(word: &[u8]) -> Result<u8, BadWord>
+    ensures { result ≡ number_up_to 255 word.now }
+{
+    Ok(u8::try_from(number(word)?).unwrap_or(u8::MAX))
+}
+
+// The seat that two words name.
 fn seat_of(sites: &[u8], own: &[u8]) -> Result<Seat, Problem<SeatRefusal>>
     ensures { seat_shown result ≡ seat_read sites.now own.now }
 {
-    let sites = u8::try_from(number(sites)?).unwrap_or(u8::MAX);
-    let own = u8::try_from(number(own)?).unwrap_or(u8::MAX);
+    let sites = site_number(sites)?;
+    let own = site_number(own)?;
     Ok(Seat::new(sites, own)?)
 }
 
