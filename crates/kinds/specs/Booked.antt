@@ -39,6 +39,10 @@ from_same l l' f f' t t' w w' c c' p q r s u = λ i. booking_from (p i) (q i) (r
 pub of_from : (bs : List ℕ) → length bs ≡ 8 → booking_of bs ≡ booking_from (at16 bs 0) (at16 bs 2) (at16 bs 4) (work_of (slice_index bs 6)) (slice_index bs 7)
 of_from bs e = rw (eq_yes (length bs) 8 e)
 
+-- two bookings with the same fields are one
+pub same_fields : (v u : Booking) → v.line ≡ u.line → v.first ≡ u.first → v.last ≡ u.last → v.work ≡ u.work → v.crew ≡ u.crew → v ≡ u
+same_fields v u l f t w c = ok_same v u (sym (from_ok v) ∙ from_same _ _ _ _ _ _ _ _ _ _ l f t (ap (λ x. Some x) w) c ∙ from_ok u)
+
 -- what a booking that was made has for fields
 from_back : (l f t : ℕ) (w : Option Work) (c : ℕ) (v : Booking) → booking_from l f t w c ≡ Ok v →
     (v.line ≡ l) × (v.first ≡ f) × (v.last ≡ t) × (w ≡ Some v.work) × (v.crew ≡ c)

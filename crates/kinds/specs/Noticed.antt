@@ -1,10 +1,12 @@
 -- Notices and their bytes: values and lawful strings match one to one.
-use Rattle.std.specs.Prelude.{◌≡◌, ℕ, zero, suc, ◌+◌, ◌*◌, ◌/◌, ◌%◌, ◌<◌, ◌≤◌, List, [], ◌∷◌, ◌++◌, length, Ok, Err, ◌≢◌, slice_index, not, refl}
+use Rattle.std.specs.Prelude.{◌≡◌, ℕ, zero, suc, ◌+◌, ◌*◌, ◌/◌, ◌%◌, ◌<◌, ◌≤◌, List, [], ◌∷◌, ◌++◌, length, drop, Ok, Err, ◌≢◌, slice_index, not, refl}
 use Rattle.std.proofs.Common.{sym, ◌∙◌, ap, subst, arith}
 use mathlib.Core.HLevel.{hedberg}
 use Rattle.std.proofs.Math.Decide.{dec_le, ℕ_discrete}
+use Rattle.std.proofs.Math.Utf8.{encode}
+use Rattle.std.proofs.lemmas.Str.Ascii.{encode_ascii}
 use Rattle.std.proofs.lemmas.List.{get_or_past}
-use Rattle.std.proofs.lemmas.List.Sums.{prefix_len-le-length, prefix_len_passes}
+use Rattle.std.proofs.lemmas.List.Sums.{prefix_len-drop_yes, prefix_len-drop_no, prefix_len-le-length, prefix_len_passes}
 use Rattle.std.specs.Char.{is_ascii_uppercase}
 use Rattle.std.proofs.lemmas.Bool.Decides.{nat_tests}
 use Rattle.rules.specs.Numbers.{be16, at16}
@@ -23,6 +25,15 @@ use Rattle.kinds.specs.Refused.{unlawful_of}
 use Rattle.kinds.specs.Notices.{notice_bytes, notice_of, line_out_from, word_from, notices}
 use Rattle.kinds.specs.Decide.{le_yes, eq_yes, spell_at, below_all, choose_no, choose_inv, clash, ok_same, ok_back, choose_both, choose_by, Near, near_err}
 use Rattle.kinds.specs.Booked.{be16_of}
+
+pub front_more : (xs : List ℕ) (i : ℕ) → i < length xs → 65 ≤ slice_index xs i → slice_index xs i ≤ 90 → front (drop i xs) ≡ front (drop (i + 1) xs) + 1
+front_more xs i h a b = grind (arith, nat_tests, prefix_len-drop_yes (λ x. not (not (is_ascii_uppercase x))) xs i 0 h)
+
+pub front_stop : (xs : List ℕ) (i : ℕ) → i < length xs → (65 ≤ slice_index xs i → slice_index xs i ≤ 90 → ⊥) → front (drop i xs) ≡ 0
+front_stop xs i h a = grind (arith, nat_tests, prefix_len-drop_no (λ x. not (not (is_ascii_uppercase x))) xs i 0 h)
+
+pub front_le : (xs : List ℕ) → front xs ≤ length xs
+front_le xs = prefix_len-le-length (λ x. not (not (is_ascii_uppercase x))) xs
 
 pub letter_small : (w : words.Word) (i : ℕ) → slice_index w.letters i ≤ 90
 letter_small w i =
@@ -50,6 +61,15 @@ same_letters v u p =
     subst P p
     (λ n h i. word v.letters (hedberg ℕ_discrete (length v.letters) 4 v.long n i) (hedberg ℕ_discrete (front v.letters) 4 v.spelled h i))
     u.long u.spelled
+
+-- the letters as characters
+pub letters_written : (w : words.Word) (a b c d : ℕ) → a ≡ slice_index w.letters 0 → b ≡ slice_index w.letters 1 → c ≡ slice_index w.letters 2 → d ≡ slice_index w.letters 3 →
+    encode a ++ (encode b ++ (encode c ++ encode d)) ≡ w.letters
+letters_written w a b c d p q r s =
+    (λ i. letter 0 a p i ++ (letter 1 b q i ++ (letter 2 c r i ++ letter 3 d s i))) ∙ sym (spell_at 4 w.letters w.long)
+  where
+    letter : (i n : ℕ) → n ≡ slice_index w.letters i → encode n ≡ slice_index w.letters i ∷ []
+    letter i n e = let h = letter_small w i in encode_ascii n (omega arith) ∙ ap (λ x. x ∷ []) e
 
 pub word_ok : (w : words.Word) (a b c d : ℕ) → w.letters ≡ a ∷ b ∷ c ∷ d ∷ [] → word_from a b c d ≡ Ok (Word w)
 word_ok w a b c d e =
@@ -119,7 +139,7 @@ notice_back bs v h e =
 word_near : (a b c d : ℕ) → Near 5 (word_from a b c d)
 word_near a b c d =
     let n = front (a ∷ b ∷ c ∷ d ∷ []) in
-    let h : n ≤ 4 = prefix_len-le-length (λ x. not (not (is_ascii_uppercase x))) (a ∷ b ∷ c ∷ d ∷ []) in
+    let h : n ≤ 4 = front_le (a ∷ b ∷ c ∷ d ∷ []) in
     choose_by (Near 5) (ℕ_discrete n 4) _ _ (λ e. below n h e) λ _. tt
   where
     below : (n : ℕ) → n ≤ 4 → (n ≢ 4) → n + 1 < 5
