@@ -6,3 +6,5 @@ pub mod Looked
 pub mod Searched
 pub mod Mapped
 pub mod Shifted
+pub mod Passed
+pub mod Valued
