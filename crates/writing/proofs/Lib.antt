@@ -1,3 +1,4 @@
 pub mod Laws
 pub mod Strips
 pub mod Fitted
+pub mod Overs
