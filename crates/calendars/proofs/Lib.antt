@@ -1,2 +1,4 @@
 pub mod Edits
 pub mod Rowed
+pub mod Rises
+pub mod Counts
