@@ -35,16 +35,12 @@ front_stop xs i h a = grind (arith, nat_tests, prefix_len-drop_no (λ x. not (no
 pub front_le : (xs : List ℕ) → front xs ≤ length xs
 front_le xs = prefix_len-le-length (λ x. not (not (is_ascii_uppercase x))) xs
 
+-- what stands in front is at most Z
+front_small : (xs : List ℕ) → front xs ≡ length xs → (i : ℕ) → slice_index xs i ≤ 90
+front_small xs e i = grind (arith, nat_tests, prefix_len_passes (λ x. not (not (is_ascii_uppercase x))) xs i 0, get_or_past xs i 0)
+
 pub letter_small : (w : words.Word) (i : ℕ) → slice_index w.letters i ≤ 90
-letter_small w i =
-    let n = w.long in
-    let f = w.spelled in
-    grind (
-      arith,
-      nat_tests,
-      prefix_len_passes (λ x. not (not (is_ascii_uppercase x))) w.letters i 0,
-      get_or_past w.letters i 0,
-    )
+letter_small w i = front_small w.letters (w.spelled ∙ sym w.long) i
 
 -- the fields of a notice make it again
 pub line_out_ok : (v : lines.LineOut) → line_out_from v.line v.day ≡ Ok (LineOut v)
