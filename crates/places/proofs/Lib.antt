@@ -3,7 +3,6 @@ pub mod Order
 pub mod Keys
 pub mod Edited
 pub mod Looked
-pub mod Searched
 pub mod Mapped
 pub mod Shifted
 pub mod Passed
