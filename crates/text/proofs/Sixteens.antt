@@ -1,13 +1,14 @@
 -- Bytes in hexadecimal digits are those of the crate hex, and what is written is read back.
-use Rattle.std.proofs.Common.{◌≡◌, ℕ, suc, ◌+◌, ◌*◌, ◌/◌, ◌%◌, ◌<◌, List, [], ◌∷◌, length, slice_index, Some, None, Option, Ok, Err, Result, sym, refl, ap, ◌∙◌, arith, true, ◌==◌}
+use Rattle.std.proofs.Common.{◌≡◌, ℕ, suc, ◌+◌, ◌*◌, ◌/◌, ◌%◌, ◌<◌, List, [], ◌∷◌, length, slice_index, Some, None, Option, is_some, Ok, Err, Result, sym, refl, ap, ◌∙◌, arith, Bool, true, false, ◌&&◌, ◌==◌}
 use borrow.Author.Tests.{eqb-true}
 use Rattle.std.proofs.lemmas.Bool.{agree_below_at}
 use Rattle.std.proofs.lemmas.Bool.Decides.{nat_tests}
+use Rattle.std.specs.List.{list_all}
 use Rattle.std.specs.Result.{result_ok}
 use Rattle.hex.specs.Hex.{IsBytes, decode_of, decode_pairs, digit_or_error, hex_digit_value, encode_upper, encode_with, upper_digits, ◌>>=◌}
 use Rattle.hex.specs.declared.error.FromHexError.{FromHexError}
 use Rattle.hex.proofs.HexLemmas.{decode_of-encode_upper}
-use Rattle.text.specs.Hexadecimals.{hex_value, hex_digit, paired, led, hex_bytes_of, hex_text_of}
+use Rattle.text.specs.Hexadecimals.{hex_value, is_digit, hex_digit, paired, led, hex_bytes_of, hex_text_of}
 
 same_value : (c : ℕ) → hex_digit_value c ≡ hex_value c
 same_value c = grind (arith, nat_tests)
@@ -37,6 +38,17 @@ odd_read (c ∷ d ∷ cs) h = ap (led (paired (hex_value c) (hex_value d))) (odd
     led_none : (x : Option ℕ) → led x None ≡ None
     led_none None = refl
     led_none (Some x) = refl
+
+-- a text with a byte that is no digit writes no bytes
+pub bad_read : (cs : List ℕ) → list_all is_digit cs ≡ false → hex_bytes_of cs ≡ None
+bad_read [] h = absurd (cc h)
+bad_read (c ∷ []) h = refl
+bad_read (c ∷ d ∷ cs) h = bad (hex_value c) (hex_value d) (list_all is_digit cs) h (bad_read cs)
+  where
+    bad : (x y : Option ℕ) (b : Bool) {o : Option (List ℕ)} → (is_some x && (is_some y && b)) ≡ false → (b ≡ false → o ≡ None) → led (paired x y) o ≡ None
+    bad None y b h k = refl
+    bad (Some x) None b h k = refl
+    bad (Some x) (Some y) b h k = ap (led (Some (x * 16 + y))) (k h)
 
 -- the bytes that are read
 pub read_is : (cs : List ℕ) → hex_bytes_of cs ≡ result_ok (decode_of cs)

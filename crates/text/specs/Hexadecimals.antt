@@ -1,12 +1,16 @@
 -- Bytes in hexadecimal digits, two for each.
 -- Assumes nothing.
-use Rattle.std.specs.Prelude.{ℕ, ◌+◌, ◌-◌, ◌*◌, ◌/◌, ◌%◌, cond, ◌&&◌, List, [], ◌∷◌, Some, None, Option, nat_le, nat_lt}
+use Rattle.std.specs.Prelude.{ℕ, ◌+◌, ◌-◌, ◌*◌, ◌/◌, ◌%◌, Bool, cond, ◌&&◌, List, [], ◌∷◌, Some, None, Option, is_some, nat_le, nat_lt}
 
 -- what a digit stands for: 0 to 9, A to F or a to f
 abbrev pub hex_value : ℕ → Option ℕ
 hex_value c =
     cond (nat_le 48 c && nat_le c 57) (Some (c - 48))
     (cond (nat_le 65 c && nat_le c 70) (Some (c - 55)) (cond (nat_le 97 c && nat_le c 102) (Some (c - 87)) None))
+
+-- whether a byte is a digit
+abbrev pub is_digit : ℕ → Bool
+is_digit c = is_some (hex_value c)
 
 -- the digit for a number below 16, in capitals
 abbrev pub hex_digit : ℕ → ℕ

@@ -1,15 +1,27 @@
 // Bytes in hexadecimal digits.
 ghost use Rattle.std.specs.Prelude.{◌≡◌, IfOk, vec_items, string_bytes};
+ghost use Rattle.std.specs.List.{list_all};
 ghost use Rattle.std.specs.Option.{option_map};
-ghost use Rattle.text.specs.Hexadecimals.{hex_bytes_of, hex_text_of};
+ghost use Rattle.text.specs.Hexadecimals.{is_digit, hex_bytes_of, hex_text_of};
 
 use hex::FromHexError;
 use std::alloc::{AllocError, Global};
+
+// Whether each byte is a digit.
+fn all_digits(text: &[u8]) -> bool
+    ensures { result ≡ list_all is_digit text.now }
+{
+    text.iter().all(u8::is_ascii_hexdigit)
+}
 
 // The bytes that a text writes, two digits for each.
 pub fn hex_bytes(heap: Global, text: &[u8]) -> Result<Option<Vec<u8>>, AllocError>
     ensures { IfOk result (λ v. option_map vec_items v ≡ hex_bytes_of text.now) }
 {
+    // `decode` makes room for all bytes before it looks at a digit; an odd length it refuses at once
+    if text.len() % 2 == 0 && !all_digits(text) {
+        return Ok(None);
+    }
     match hex::decode(heap, text) {
         Ok(bytes) => Ok(Some(bytes)),
         Err(FromHexError::OutOfMemory) => Err(AllocError),
