@@ -85,16 +85,26 @@ module _ (known : ℕ → ℕ) where
           ]
         ]
 
+-- a row in which the number of another origin is set
+row_kept : (done done' : ℕ → ℕ) (w n : ℕ) → done' ≡ row_with done w n → (v : ℕ) → v ≢ w → capped done' v ≡ capped done v
+row_kept done done' w n e v o =
+    ap (λ (r : ℕ → ℕ). capped r v) e ∙ ap (λ x. min x 1000000) (cond-false (eqb v w) n (done v) (ne_eqb v w o))
+
+-- of the origins before the one of which an event more is done still none is left
+pub passed_still : (known done done' : ℕ → ℕ) (w n : ℕ) → ((v : ℕ) → 1 ≤ v → v < w → capped known v ≤ capped done v) → done' ≡ row_with done w n →
+    (v : ℕ) → 1 ≤ v → v < w → capped known v ≤ capped done' v
+passed_still known done done' w n none e v a b =
+    let q : capped done' v ≡ capped done v = row_kept done done' w n e v (λ p. omega arith) in
+    omega (arith, none v a b)
+
 -- one event more of the first origin of which one is left
 pub next_left : (known done done' : ℕ → ℕ) (N w n : ℕ) → Within N w → n ≡ done w → capped done w < capped known w →
     ((v : ℕ) → 1 ≤ v → v < w → capped known v ≤ capped done v) → done' ≡ row_with done w (n + 1) →
     left (capped known) (capped done) 1 N ≡ (w, n + 1) ∷ left (capped known) (capped done') 1 N
 next_left known done done' N w n within here some none e =
     let at : done' w ≡ n + 1 = ap (λ (r : ℕ → ℕ). r w) e ∙ cond-true (eqb w w) (n + 1) (done w) (eq-eqb w w refl) in
-    let others : (v : ℕ) → v ≢ w → capped done' v ≡ capped done v =
-    λ v o. ap (λ (r : ℕ → ℕ). capped r v) e ∙ ap (λ x. min x 1000000) (cond-false (eqb v w) (n + 1) (done v) (ne_eqb v w o)) in
     let c : capped done w ≡ n = omega arith in
-    first_left (capped known) (capped done) (capped done') w (omega arith) others 1 N within.0 (omega arith) none some
+    first_left (capped known) (capped done) (capped done') w (omega arith) (row_kept done done' w (n + 1) e) 1 N within.0 (omega arith) none some
     ∙ ap (λ x. (w, x + 1) ∷ left (capped known) (capped done') 1 N) c
 
 -- a record that was read, and one that could not be

@@ -10,7 +10,7 @@ impl StampsLeft {
     fn origin(&self) -> Option<u8>
         ensures { IsFirstLeft self.now result }
     {
-        (1..=self.writer.seat.sites).find(|&origin| self.done.number(origin)
+        (self.at..=self.writer.seat.sites).find(|&origin| self.done.number(origin)
             < self.writer.known.number(origin).min(1_000_000))
     }
 }
@@ -25,6 +25,7 @@ impl Iterator for StampsLeft {
     fn next(&mut self) -> Option<Stamp> {
         let origin = self.origin()?;
         let number = self.done.number(origin) + 1;
+        self.at = origin;
         self.done.set_number(origin, number);
         Stamp::new(origin, number).ok()
     }
