@@ -13,7 +13,7 @@ use sheets::{Checked, SheetRecords, check};
 use std::alloc::{AllocError, Global};
 use std::fmt::Write;
 use tables::{Seat, TimeTable};
-use walks::Records;
+use walks::RecordIterator;
 
 // The line of row k.
 #[tactic(auto, using(crate::proofs::Said::cell_next, std::proofs::lemmas::Grind::common_steps))]
@@ -53,8 +53,11 @@ fn say_record<V: InWords>(heap: Global, x: &Record<V>) -> Result<String, AllocEr
 }
 
 // The lines of all records.
-fn say_records<V: InWords, R: Records<V>>(heap: Global, records: R) -> Result<String, AllocError>
-    ensures { IfOk result (λ s. string_bytes s ≡ records_text V.InWords.words (R.Records.coming records)) }
+fn say_records<V: InWords, R: RecordIterator<V>>(
+    heap: Global,
+    records: R,
+) -> Result<String, AllocError>
+    ensures { IfOk result (λ s. string_bytes s ≡ records_text V.InWords.words (R.RecordIterator.coming records)) }
 {
     let mut text = String::new(heap);
     for record in records {

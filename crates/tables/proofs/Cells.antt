@@ -106,8 +106,8 @@ raised_more T S k = λ j a u. at a u j
         ]
 
 -- all rows
-pub raised_all : (t o : TimeTable) (k : ℕ) → length t.rows ≡ 8 → length o.rows ≡ 8 → k ≡ 9 → rows_raised (number t) k (number o) ≡ (λ a u. max (number t a u) (number o a u))
-raised_all t o k lt lo e = λ j a u. at a u j
+pub raised_all : (t o : TimeTable) (k : ℕ) → k ≡ 9 → rows_raised (number t) k (number o) ≡ (λ a u. max (number t a u) (number o a u))
+raised_all t o k e = λ j a u. at a u j
   where
     at : (a u : ℕ) → rows_raised (number t) k (number o) a u ≡ max (number t a u) (number o a u)
     at a u =
@@ -115,6 +115,6 @@ raised_all t o k lt lo e = λ j a u. at a u j
           | inl l ↦ cond-true (ltb a k) _ _ (lt-ltb a k l)
           | inr g ↦
               cond-false (ltb a k) (max (number t a u) (number o a u)) (number t a u) (le-ltb a k g)
-              ∙ (let p = rows_past t.rows a u (omega arith) in
-              let q = rows_past o.rows a u (omega arith) in omega arith)
+              ∙ (let p = rows_past t.rows a u (omega (arith, t.long)) in
+              let q = rows_past o.rows a u (omega (arith, o.long)) in omega arith)
         ]

@@ -1,6 +1,6 @@
 -- The numbers of rows and tables, by site and origin from 1 on, and 0 outside.
 -- Assumes nothing.
-use Rattle.std.specs.Prelude.{ℕ, zero, suc, max, cond, List, [], ◌∷◌, Some, None, Option, ◌==◌, nat_lt, slice_index, slice_index_or}
+use Rattle.std.specs.Prelude.{ℕ, zero, suc, max, cond, List, [], ◌∷◌, Some, None, Option, ◌==◌, nat_lt, slice_index, slice_index_or, refl}
 use Rattle.rules.specs.Tables.{Table}
 use Rattle.tables.specs.declared.table.Row.{Row}
 use Rattle.tables.specs.declared.table.TimeTable.{TimeTable}
@@ -12,7 +12,7 @@ index_of (suc k) = cond (nat_lt k 8) (Some k) None
 
 -- the row of a site that is credited with nothing
 abbrev pub blank : Row
-blank = record { numbers = 0 ∷ 0 ∷ 0 ∷ 0 ∷ 0 ∷ 0 ∷ 0 ∷ 0 ∷ [] }
+blank = record { numbers = 0 ∷ 0 ∷ 0 ∷ 0 ∷ 0 ∷ 0 ∷ 0 ∷ 0 ∷ []; long = refl }
 
 -- the number for an origin
 abbrev pub number_in : List ℕ → ℕ → ℕ

@@ -1,32 +1,29 @@
 // The time table of a site: its rows and their numbers.
-ghost use Rattle.std.specs.Prelude.{◌≡◌};
-ghost use Rattle.rules.specs.Stamps.{Within};
-ghost use Rattle.rules.specs.Tables.{raised, merged, least_credited};
-ghost use Rattle.tables.specs.Numbers.{index_of, in_row, row_with, larger, row_raised, number};
+ghost use Rattle.std.specs.Prelude.{◌≡◌, length};
 
 use crate::seat::Seat;
+use crate::table::index::index_of;
+
+pub mod index;
 
 // For each origin, 1 to 8, how many of its events one site is credited with.
 #[derive(Clone, Copy, PartialEq, Eq, Debug)]
 pub struct Row {
     numbers: [u32; 8],
+    ghost long: { length numbers ≡ 8 },
 }
 
 // The rows of the sites 1 to 8.
 #[derive(Clone, Copy, PartialEq, Eq, Debug)]
 pub struct TimeTable {
     rows: [Row; 8],
-}
-
-// The index of a site in an array of eight, and none outside.
-fn index_of(site: u8) -> Option<usize>
-    ensures { result ≡ index_of site }
-{
-    let index = usize::from(site).checked_sub(1)?;
-    (index < 8).then_some(index)
+    ghost long: { length rows ≡ 8 },
 }
 
 impl Row {
+    ghost use Rattle.rules.specs.Stamps.{Within};
+    ghost use Rattle.tables.specs.Numbers.{in_row, row_with, larger};
+
     // The row of a site that is credited with nothing. Its name says what a Default would leave open.
     pub fn empty() -> Row
         ensures { in_row result ≡ (λ _. 0) }
@@ -66,6 +63,10 @@ impl Row {
 }
 
 impl TimeTable {
+    ghost use Rattle.rules.specs.Stamps.{Within};
+    ghost use Rattle.rules.specs.Tables.{raised, merged, least_credited};
+    ghost use Rattle.tables.specs.Numbers.{in_row, row_raised, number};
+
     // The table in which no site is credited with anything.
     pub fn empty() -> TimeTable
         ensures { number result ≡ (λ _ _. 0) }
@@ -98,7 +99,9 @@ impl TimeTable {
         ensures outside { (Within 8 k × Within 8 u → ⊥) → number self.new ≡ number self.old }
     {
         if let Some(index) = index_of(k) {
-            self.rows[index].set_number(u, n);
+            // the rows by themselves: of a table that is out of its invariant the check follows no element
+            let rows = &mut self.rows;
+            rows[index].set_number(u, n);
         }
     }
 
@@ -108,7 +111,8 @@ impl TimeTable {
         ensures outside { (Within 8 k → ⊥) → self.new ≡ self.old }
     {
         if let Some(index) = index_of(k) {
-            self.rows[index].raise(other);
+            let rows = &mut self.rows;
+            rows[index].raise(other);
         }
     }
 

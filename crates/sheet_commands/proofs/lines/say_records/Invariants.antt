@@ -7,5 +7,5 @@ abbrev pub invariant-loop-record : goal.invariant-loop-record
 invariant-loop-record g l =
     (goal.iterator-loop-record g).can_next l.record-iterator
     × (goal.iterator-loop-record g).is_finite l.record-iterator
-    × (string_bytes l.text ++ records_text g.V.InWords.words (g.R.Records.coming l.record-iterator)
-    ≡ records_text g.V.InWords.words (g.R.Records.coming l.initial.record-iterator))
+    × (string_bytes l.text ++ records_text g.V.InWords.words (g.R.RecordIterator.coming l.record-iterator)
+    ≡ records_text g.V.InWords.words (g.R.RecordIterator.coming l.initial.record-iterator))

@@ -14,5 +14,5 @@ pub returns : goal.returns
 returns c =
     c.raise_row-2.ensures.inside (omega (arith, c.args.seat.member, c.args.seat.group))
     ∙ (λ j.
-    row_raised ((c.loop-k.invariant ∙ raised_all c.args.self.now c.args.other.now c.loop-k.k (omega arith) (omega arith) (omega arith)) j) c.args.seat.own
+    row_raised ((c.loop-k.invariant ∙ raised_all c.args.self.now c.args.other.now c.loop-k.k (omega arith)) j) c.args.seat.own
     (c.row-2.ensures j))
