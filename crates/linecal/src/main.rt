@@ -10,8 +10,14 @@ use std::{fs, io};
 // An input or an output that fails, or want of memory, ends it with status 1; a file that a command names need not be there.
 fn main(rt: HostRuntime) -> io::Result<()> {
     let heap = rt.alloc();
-    for line in BufReader::new(heap, rt.stdin())?.split(heap, b'\n') {
-        let line = line?;
+    let mut input = BufReader::new(heap, rt.stdin())?;
+    // one buffer for all lines: `split` makes one for each
+    let mut line = Vec::new(heap);
+    for _ in 0..u64::MAX {
+        line.clear();
+        if input.read_until(b'\n', &mut line)? == 0 {
+            break;
+        }
         let Some(path) = file_named(&line) else {
             let text = answer(heap, &line)?;
             if !text.is_empty() {

@@ -12,6 +12,12 @@ abbrev pub first_words : ℕ → List ℕ → List (List ℕ)
 first_words zero cs = []
 first_words (suc n) cs = word cs ∷ first_words n (behind cs)
 
+-- the same of at most m words, those behind them empty
+abbrev pub words_up_to : (m n : ℕ) → List ℕ → List (List ℕ)
+words_up_to m zero cs = []
+words_up_to zero (suc n) cs = [] ∷ words_up_to zero n cs
+words_up_to (suc m) (suc n) cs = word cs ∷ words_up_to m n (behind cs)
+
 -- a number; one that is too large reads as the largest
 abbrev pub number_read : List ℕ → Result ℕ BadWord
 number_read w = ok_or (capped (decimal_of w)) Number

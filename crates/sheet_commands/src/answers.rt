@@ -6,11 +6,11 @@ ghost use Rattle.sheet_commands.specs.Answers.{usage_text, seat_read, seat_shown
 
 use crate::lines::say_sheet;
 use crate::problem::{BadWord, Problem};
-use crate::words::{first_words, number};
+use crate::words::{number, words_up_to};
 use kinds::{Booking, Notice};
 use std::alloc::{AllocError, Global};
 use tables::{Seat, SeatRefusal};
-use text::hex_bytes;
+use text::{cut_word, hex_bytes};
 
 // How the commands are written.
 const USAGE: &str =
@@ -63,7 +63,7 @@ fn say(
 pub fn answer_sheet(heap: Global, rest: &[u8]) -> Result<String, AllocError>
     ensures { IfOk result (λ s. string_bytes s ≡ sheet_answer rest.now) }
 {
-    let [sites, own, kind, digits, more, _] = first_words(rest);
+    let [sites, own, kind, digits, more, _] = words_up_to(rest, 5);
     if digits.is_empty() || !more.is_empty() {
         return say_usage(heap);
     }
@@ -77,18 +77,21 @@ pub fn answer_sheet(heap: Global, rest: &[u8]) -> Result<String, AllocError>
 pub fn file_named(line: &[u8]) -> Option<&[u8]>
     ensures { option_map (λ p. p.now) result ≡ file_name_of line.now }
 {
-    let [word, _, _, _, path, more] = first_words(line);
-    if word == b"sheet-file".as_slice() && !path.is_empty() && more.is_empty() {
-        Some(path)
-    } else {
-        None
+    // of a line that names no file only the first word is read
+    let (word, rest) = cut_word(line);
+    if word == b"sheet-file".as_slice() {
+        let [_, _, _, path, more, _] = words_up_to(rest, 5);
+        if !path.is_empty() && more.is_empty() {
+            return Some(path);
+        }
     }
+    None
 }
 
 // What is said for such a line when the file holds these bytes.
 pub fn answer_file(heap: Global, line: &[u8], bytes: &[u8]) -> Result<String, AllocError>
     ensures { IfOk result (λ s. string_bytes s ≡ file_answer line.now bytes.now) }
 {
-    let [_, sites, own, kind, ..] = first_words(line);
+    let [_, sites, own, kind, ..] = words_up_to(line, 4);
     say(heap, seat_of(sites, own), kind, bytes)
 }

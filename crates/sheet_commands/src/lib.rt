@@ -10,4 +10,4 @@ mod words;
 pub use answers::{answer_file, answer_sheet, file_named, say_usage};
 pub use in_words::InWords;
 pub use problem::{BadWord, Problem};
-pub use words::{first_words, number};
+pub use words::{first_words, number, words_up_to};

@@ -9,7 +9,7 @@ use crate::entries::{booking, entry, line_out, word};
 use crate::usage::Usage;
 use events::Stamp;
 use kinds::{Booking, EntryRefusal, Kind, Notice};
-use sheet_commands::{InWords, Problem, answer_sheet, first_words, say_usage};
+use sheet_commands::{InWords, Problem, answer_sheet, first_words, say_usage, words_up_to};
 use std::alloc::{AllocError, Global};
 use text::{cut_word, hex_bytes, hex_text};
 
@@ -60,7 +60,7 @@ fn say_entry(heap: Global, kind: &[u8], digits: &[u8]) -> Result<String, AllocEr
 fn answer_entry(heap: Global, rest: &[u8]) -> Result<String, AllocError>
     ensures { IfOk result (λ s. string_bytes s ≡ entry_answer rest.now) }
 {
-    let [kind, digits, more, ..] = first_words(rest);
+    let [kind, digits, more, ..] = words_up_to(rest, 3);
     if !more.is_empty() {
         return Usage::Entry.to_string(heap);
     }
@@ -82,7 +82,7 @@ fn answer_booking(heap: Global, rest: &[u8]) -> Result<String, AllocError>
 fn answer_notice(heap: Global, rest: &[u8]) -> Result<String, AllocError>
     ensures { IfOk result (λ s. string_bytes s ≡ notice_answer rest.now) }
 {
-    let [form, first, second, more, ..] = first_words(rest);
+    let [form, first, second, more, ..] = words_up_to(rest, 4);
     if !more.is_empty() {
         return Usage::Notice.to_string(heap);
     }
@@ -100,7 +100,7 @@ fn answer_notice(heap: Global, rest: &[u8]) -> Result<String, AllocError>
 fn answer_stamp(heap: Global, rest: &[u8]) -> Result<String, AllocError>
     ensures { IfOk result (λ s. string_bytes s ≡ stamp_answer rest.now) }
 {
-    let [text, more, ..] = first_words(rest);
+    let [text, more, ..] = words_up_to(rest, 2);
     if !more.is_empty() {
         return Usage::Stamp.to_string(heap);
     }
