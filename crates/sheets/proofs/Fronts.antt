@@ -66,7 +66,7 @@ module _ (N : ℕ) (T : Table) where
           ]
 
 -- one number more
-row_more : (r : ℕ → ℕ) (u : ℕ) → row_with (row_front r u) u (r u) ≡ row_front r (u + 1)
+pub row_more : (r : ℕ → ℕ) (u : ℕ) → row_with (row_front r u) u (r u) ≡ row_front r (u + 1)
 row_more r u = λ j w. at w j
   where
     at : (w : ℕ) → row_with (row_front r u) u (r u) w ≡ row_front r (u + 1) w
