@@ -77,7 +77,7 @@ pub fn answer_sheet(heap: Global, rest: &[u8]) -> Result<String, AllocError>
 pub fn file_named(line: &[u8]) -> Option<&[u8]>
     ensures { option_map (λ p. p.now) result ≡ file_name_of line.now }
 {
-    // of a line that names no file only the first word is read
+    // behind another first word nothing is read
     let (word, rest) = cut_word(line);
     if word == b"sheet-file".as_slice() {
         let [_, _, _, path, more, _] = words_up_to(rest, 5);

@@ -20,6 +20,7 @@ pub struct Walk<V, R: Records<V>> {
     ghost few: { (length (left ended (R.coming records)) ≤ most) × (most ≤ 8000000) },
 }
 
+// By hand: there is no derive for a struct with a ghost field and type parameters.
 impl<V: Copy, R: Records<V>> Clone for Walk<V, R> {
     ghost is_clone = { λ s r. r ≡ s };
 
