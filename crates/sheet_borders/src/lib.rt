@@ -88,6 +88,71 @@ mod sheet_tests {
         }
     }
 
+    // Which of three calls for a record give one, when this lies where a good sheet should, and what the walk's check tells then.
+    fn walked<K: Kind + Copy>(
+        sites: u8,
+        own: u8,
+        good: &[u8],
+        sheet: &[u8],
+    ) -> Option<([bool; 3], Option<Refusal>)> {
+        let seat = Seat::new(sites, own).ok()?;
+        let checked = check::<K>(seat, None, good).ok()?;
+        let mut records = SheetRecords::<K>::new(seat, checked.writer, &checked.table, sheet);
+        let came = [
+            records.next().is_some(),
+            records.next().is_some(),
+            records.next().is_some(),
+        ];
+        Some((came, records.check().err().map(|x| x.refusal())))
+    }
+
+    // The same of the first sheet and of the wide one.
+    fn walked_first(sheet: &[u8]) -> Option<([bool; 3], Option<Refusal>)> {
+        walked::<Booking>(3, 2, &first_sheet(), sheet)
+    }
+
+    fn walked_wide(sheet: &[u8]) -> Option<([bool; 3], Option<Refusal>)> {
+        walked::<Notice>(8, 1, &wide_sheet(), sheet)
+    }
+
+    #[test]
+    fn walk_stays_where_it_is_cut(rt: HostRuntime) {
+        let s = first_sheet();
+        let w = wide_sheet();
+        for n in 41..50 {
+            assert_eq!(rt;
+                walked_first(&s[0..n]),
+                Some(([false; 3], with(4, n as u64)))
+            );
+        }
+        for n in 261..267 {
+            assert_eq!(rt;
+                walked_wide(&w[0..n]),
+                Some(([false; 3], with(4, n as u64)))
+            );
+        }
+        for n in 267..273 {
+            assert_eq!(rt;
+                walked_wide(&w[0..n]),
+                Some(([true, false, false], with(4, n as u64)))
+            );
+        }
+        assert_eq!(rt; walked_first(&s), Some(([true, false, false], None)));
+        assert_eq!(rt; walked_wide(&w), Some(([true, true, false], None)));
+    }
+
+    #[test]
+    fn walk_stays_at_a_bad_record(rt: HostRuntime) {
+        let mut s = first_sheet();
+        s[41] = 3;
+        assert_eq!(rt; walked_first(&s), Some(([false; 3], with(7, 41))));
+        let mut w = wide_sheet();
+        w[268] = 9;
+        assert_eq!(rt; walked_wide(&w), Some(([true, false, false], with(7, 268))));
+        w[261] = 0;
+        assert_eq!(rt; walked_wide(&w), Some(([false; 3], with(7, 261))));
+    }
+
     // The head of the first sheet with one byte changed.
     fn head_changed(place: usize, value: u8) -> Option<Refusal> {
         // from site 3, whose row has no event of site 1

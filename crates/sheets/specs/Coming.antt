@@ -1,6 +1,6 @@
 -- The records of a sheet that are still to come.
 -- Assumes nothing.
-use Rattle.std.specs.Prelude.{◌≡◌, ℕ, ◌+◌, ◌-◌, ◌<◌, ◌≤◌, List, [], ◌∷◌, Some, None, Ok, Err, Option, Result}
+use Rattle.std.specs.Prelude.{◌≡◌, ℕ, ◌+◌, ◌-◌, ◌<◌, ◌≤◌, List, [], ◌∷◌, Some, None, Ok, Err, Option, Result, MatchOption}
 use Rattle.std.specs.Iterator.{YieldsFirstBy}
 use Rattle.rules.specs.Refusals.{Refusal}
 use Rattle.rules.specs.Stamps.{Stamp, Within}
@@ -10,7 +10,8 @@ use Rattle.rules.specs.Tables.{Table}
 use Rattle.rules.specs.Sheets.{Sheet, runs}
 use Rattle.rules.specs.Reading.{record_at, read}
 use Rattle.events.specs.declared.stamp.Stamp as events
-use Rattle.events.specs.Told.{stamp_of}
+use Rattle.events.specs.declared.record.Record as told
+use Rattle.events.specs.Told.{stamp_of, record_of}
 use Rattle.kinds.specs.Formats.{Format, rule_of}
 use Rattle.tables.specs.declared.seat.Seat.{Seat}
 use Rattle.tables.specs.Numbers.{in_row}
@@ -53,6 +54,11 @@ to_come c = stamps_left c.stamps
 abbrev pub records_of : {E : Type 0} → Format E → SheetRecords E → List (Record E)
 records_of f c =
     read_all (rule_of f) c.stamps.writer.seat.sites (capped (in_row c.stamps.writer.known)) c.reader.bytes.now (to_come c) c.reader.place
+
+-- the first of them is given, and its stamp is the first that is left; where none is given, the walk stays as it was, also at a stamp whose record cannot be read
+abbrev pub GivesRecord : {E : Type 0} → Format E → SheetRecords E → Option (told.Record E) → SheetRecords E → Type 0
+GivesRecord f c r d =
+    YieldsFirstBy record_of (records_of f) c r d × MatchOption r (d ≡ c) (λ x. to_come c ≡ stamp_of x.at ∷ to_come d)
 
 -- these are the records of a sheet with this writer and this table: wherever it can be read as such a sheet, with an own row or without, they are read
 abbrev pub ReadAgain : {E : Type 0} → Format E → Seat → (k : ℕ) → Table → List ℕ → List (Record E) → Type 0

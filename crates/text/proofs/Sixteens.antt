@@ -50,6 +50,19 @@ bad_read (c ∷ d ∷ cs) h = bad (hex_value c) (hex_value d) (list_all is_digit
     bad (Some x) None b h k = refl
     bad (Some x) (Some y) b h k = ap (led (Some (x * 16 + y))) (k h)
 
+-- a text of digits, two by two, writes some
+pub good_read : (cs : List ℕ) → length cs % 2 ≡ 0 → list_all is_digit cs ≡ true → is_some (hex_bytes_of cs) ≡ true
+good_read [] n h = refl
+good_read (c ∷ []) n h = absurd (omega arith)
+good_read (c ∷ d ∷ cs) n h = good (hex_value c) (hex_value d) (list_all is_digit cs) (hex_bytes_of cs) h (good_read cs (omega arith))
+  where
+    good : (x y : Option ℕ) (b : Bool) (o : Option (List ℕ)) → (is_some x && (is_some y && b)) ≡ true → (b ≡ true → is_some o ≡ true) →
+        is_some (led (paired x y) o) ≡ true
+    good None y b o h k = absurd (cc h)
+    good (Some x) None b o h k = absurd (cc h)
+    good (Some x) (Some y) b None h k = k h
+    good (Some x) (Some y) b (Some bs) h k = refl
+
 -- the bytes that are read
 pub read_is : (cs : List ℕ) → hex_bytes_of cs ≡ result_ok (decode_of cs)
 read_is cs = let e = pairs_read 0 cs in grind (arith, nat_tests, odd_read cs)
