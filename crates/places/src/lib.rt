@@ -4,13 +4,11 @@
 mod key;
 mod rows;
 mod search;
-mod shift;
 mod stamped;
 mod value;
 
 pub use key::Key;
-pub use rows::{Full, Rows};
+pub use rows::{Full, Rows, insert_at, remove_run};
 pub use search::rank_of;
-pub use shift::{insert_at, remove_run};
 pub use stamped::Stamped;
 pub use value::value_of;
